@@ -2,7 +2,6 @@
 // What can't be read is reported on standard error, with nothing on standard output. --help and --version tell of the program itself.
 #![tactic(auto)]
 
-use job::JobAnswer;
 use paper::Refusal;
 use program::Request;
 use std::io;
@@ -13,8 +12,8 @@ fn print_refusal(rt: &impl Print, refusal: Refusal) -> io::Result<()> {
     let mut line = [0u8; 64];
     let answer = job::refusal_line(refusal, &mut line);
     match answer {
-        JobAnswer::Length(n) => program::print_text(rt, n, &line),
-        JobAnswer::Refused(_) => Ok(()),
+        Ok(n) => program::print_text(rt, n, &line),
+        Err(_) => Ok(()),
     }
 }
 
@@ -29,8 +28,8 @@ fn print_listing<R: Read>(rt: &HostRuntime, from: &mut R, what: &[u8]) -> io::Re
     let mut out = [0u8; 65536];
     let answer = job::run_job(&file[..n], &mut out);
     match answer {
-        JobAnswer::Length(k) => program::print_text(rt, k, &out),
-        JobAnswer::Refused(refusal) => print_refusal(rt, refusal),
+        Ok(k) => program::print_text(rt, k, &out),
+        Err(refusal) => print_refusal(rt, refusal),
     }
 }
 

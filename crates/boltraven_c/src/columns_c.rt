@@ -1,14 +1,13 @@
 // The published owners and the draft's side by side.
 ghost use Rattle.std.specs.Prelude.{◌≡◌, length};
 ghost use Rattle.paper.specs.Limits.{number_of};
-ghost use Rattle.slotset.specs.Answers.{yes_no_as};
+ghost use Rattle.paper.specs.Rows.{answer_as};
 ghost use Rattle.columns.specs.Parts.{columns_row, stretch_row, is_frozen};
 ghost use Rattle.columns.specs.Publishing.{publish_of, show_row, show_of};
 ghost use Rattle.boltraven_c.specs.Numbers.{yes_no_number};
 ghost use Rattle.boltraven_c.specs.Columns.{part_length};
 
 use crate::refused;
-use slotset::YesNo;
 
 // A slot's part: 1 of the published column, 0 of the draft, with its length written; it starts at the column's entry `slot`.
 // Refused, the length stays.
@@ -22,7 +21,7 @@ pub extern "C" fn boltraven_stretch<'a>(
     length: &mut u64,
 ) -> u64
     ensures value { result ≡ yes_no_number
-        (yes_no_as (number_of (stretch_row slots published.now draft.now frozen.now slot))
+        (answer_as (number_of (stretch_row slots published.now draft.now frozen.now slot))
         (is_frozen frozen.now slot)) }
     ensures length_after { length.new
         ≡ part_length length.old slots published.now draft.now frozen.now slot }
@@ -30,15 +29,15 @@ pub extern "C" fn boltraven_stretch<'a>(
     let part = columns::stretch(slots, published, draft, frozen, slot);
     let which = columns::is_published(slots, published, draft, frozen, slot);
     match which {
-        YesNo::Yes => {
+        Ok(true) => {
             *length = part.len() as u64;
             1
         }
-        YesNo::No => {
+        Ok(false) => {
             *length = part.len() as u64;
             0
         }
-        YesNo::Refused(n) => refused(n),
+        Err(n) => refused(n),
     }
 }
 

@@ -4,19 +4,19 @@ ghost use Rattle.job.specs.Outcome.{job_refusal, job_length, job_result};
 ghost use Rattle.boltraven_c.specs.Numbers.{refusal_number};
 
 use crate::answers::refusal_number;
-use job::JobAnswer;
+use paper::Refusal;
 
 // The refusal, or 0 with the length written.
-fn put_length(answer: JobAnswer, length: &mut u64) -> u64
+fn put_length(answer: Result<usize, Refusal>, length: &mut u64) -> u64
     ensures value { result ≡ refusal_number (job_refusal answer) }
     ensures length_after { length.new ≡ job_length length.old answer }
 {
     match answer {
-        JobAnswer::Length(n) => {
+        Ok(n) => {
             *length = n as u64;
             0
         }
-        JobAnswer::Refused(refusal) => refusal_number(refusal),
+        Err(refusal) => refusal_number(refusal),
     }
 }
 

@@ -1,10 +1,9 @@
 // A rota made, emptied, read and recounted.
 ghost use Rattle.std.specs.Prelude.{◌≡◌, true, leb, length, []};
-ghost use Rattle.paper.specs.Rows.{refusal_of};
+ghost use Rattle.paper.specs.Rows.{refusal_of, answer_refusal};
 ghost use Rattle.owners.specs.Derived.{plan, derived};
 ghost use Rattle.owners.specs.Entries.{recount_row, recount_slots_row, placeless, Ended, from_slots, emptied, owner_is, minutes_is, unassigned_is};
 ghost use Rattle.owners.specs.Entries.{uncovered_is};
-ghost use Rattle.slots.specs.Lent.{minutes_refusal};
 ghost use Rattle.boltraven_c.specs.Numbers.{refusal_number, plain_number, minutes_written};
 
 use crate::answers::{plain_number, put_minutes, refusal_number};
@@ -129,7 +128,7 @@ pub extern "C" fn boltraven_minutes_of(
     person: usize,
     out: &mut u64,
 ) -> u8
-    ensures value { result ≡ minutes_refusal (minutes_is people minutes.now person) }
+    ensures value { result ≡ answer_refusal (minutes_is people minutes.now person) }
     ensures out_after { out.new ≡ minutes_written out.old (minutes_is people minutes.now person) }
 {
     let worked = owners::minutes_of(people, minutes, person);
@@ -154,7 +153,7 @@ pub extern "C" fn boltraven_uncovered_minutes(
     owners: &[u8],
     out: &mut u64,
 ) -> u8
-    ensures value { result ≡ minutes_refusal (uncovered_is (plan people slots starts.now ends.now)
+    ensures value { result ≡ answer_refusal (uncovered_is (plan people slots starts.now ends.now)
         owners.now) }
     ensures out_after { out.new ≡ minutes_written out.old
         (uncovered_is (plan people slots starts.now ends.now) owners.now) }

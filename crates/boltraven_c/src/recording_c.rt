@@ -79,17 +79,18 @@ pub extern "C" fn boltraven_read_block(
         recorded.old count.old next.old result draws.new firsts.new seconds.new
         recorded.new count.new next.new }
 {
-    let read = replay::read_block(bytes, blocks, draws, firsts, seconds, recorded);
-    match read {
-        BlockRead::Block {
-            draws: n,
-            next: end,
-        } => {
+    match replay::read_block(bytes, blocks, draws, firsts, seconds, recorded) {
+        Ok(
+            BlockRead::Block {
+                draws: n,
+                next: end,
+            },
+        ) => {
             *count = n as u64;
             *next = end as u64;
             0
         }
-        BlockRead::End => NOTHING,
-        BlockRead::Refused(n) => n as u64,
+        Ok(BlockRead::End) => NOTHING,
+        Err(n) => n as u64,
     }
 }

@@ -31,7 +31,7 @@ pub extern "C" fn boltraven_replay_block(
 ) -> u64
     ensures { ReplayEnds (replayed (plan people slots starts.now ends.now) avail.now units unit_starts.now frozen.now count draws.now firsts.now seconds.now recorded.now owners.old (derived sets.old minutes.old totals.old)) place.old result owners.new (derived sets.new minutes.new totals.new) place.new }
 {
-    let answer = rota::replay::replay_block(
+    match rota::replay::replay_block(
         people,
         slots,
         units,
@@ -49,13 +49,12 @@ pub extern "C" fn boltraven_replay_block(
         sets,
         minutes,
         totals,
-    );
-    match answer {
-        Replayed::Agrees => 0,
-        Replayed::Differs(p) => {
+    ) {
+        Ok(Replayed::Agrees) => 0,
+        Ok(Replayed::Differs(p)) => {
             *place = p as u64;
             NOTHING
         }
-        Replayed::Refused(refusal) => refusal_number(refusal),
+        Err(refusal) => refusal_number(refusal),
     }
 }

@@ -70,7 +70,7 @@ pub extern "C" fn boltraven_retire(
         value,
         days,
     };
-    let answer = retire::retire(
+    match retire::retire(
         people,
         slots,
         units,
@@ -93,15 +93,14 @@ pub extern "C" fn boltraven_retire(
         totals,
         priors,
         retired,
-    );
-    match answer {
-        Retiring::Retired { gone, slots, units } => {
+    ) {
+        Ok(Retiring::Retired { gone, slots, units }) => {
             *told = three_numbers(gone, slots, units);
             0
         }
-        Retiring::Nothing => NOTHING,
-        Retiring::Everything => EVERYTHING,
-        Retiring::Refused(refusal) => refusal_number(refusal),
+        Ok(Retiring::Nothing) => NOTHING,
+        Ok(Retiring::Everything) => EVERYTHING,
+        Err(refusal) => refusal_number(refusal),
     }
 }
 

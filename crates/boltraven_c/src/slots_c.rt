@@ -1,6 +1,7 @@
 // Slots, availability and freezing. Minutes are written through an address, beside the number of the refusal, or 0.
 ghost use Rattle.std.specs.Prelude.{◌≡◌};
-ghost use Rattle.slots.specs.Lent.{demand_is, slot_minutes_is, minutes_refusal};
+ghost use Rattle.slots.specs.Lent.{demand_is, slot_minutes_is};
+ghost use Rattle.paper.specs.Rows.{answer_refusal};
 ghost use Rattle.boltraven_c.specs.Numbers.{minutes_written, plain_number, yes_no_number};
 ghost use Rattle.slots.specs.Availability.{is_available, availability_row, availability_of};
 ghost use Rattle.slots.specs.Freeze.{freeze_of};
@@ -14,7 +15,7 @@ use crate::answers::{plain_number, put_minutes, yes_no_number};
 // The minutes of all slots.
 #[unsafe(no_mangle)]
 pub extern "C" fn boltraven_demand(slots: usize, starts: &[u32], ends: &[u32], out: &mut u64) -> u8
-    ensures value { result ≡ minutes_refusal (demand_is slots starts.now ends.now) }
+    ensures value { result ≡ answer_refusal (demand_is slots starts.now ends.now) }
     ensures out_after { out.new
         ≡ minutes_written out.old (demand_is slots starts.now ends.now) }
 {
@@ -31,7 +32,7 @@ pub extern "C" fn boltraven_slot_minutes(
     slot: usize,
     out: &mut u64,
 ) -> u8
-    ensures value { result ≡ minutes_refusal (slot_minutes_is slots starts.now ends.now slot) }
+    ensures value { result ≡ answer_refusal (slot_minutes_is slots starts.now ends.now slot) }
     ensures out_after { out.new
         ≡ minutes_written out.old (slot_minutes_is slots starts.now ends.now slot) }
 {

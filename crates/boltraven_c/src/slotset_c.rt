@@ -3,7 +3,8 @@ ghost use Rattle.std.specs.Prelude.{◌≡◌, ◌+◌};
 ghost use Rattle.paper.specs.Limits.{number_of};
 ghost use Rattle.slotset.specs.Slots.{has, size, has_no_member, value_of};
 ghost use Rattle.slotset.specs.Search.{next_set, prev_set, next_unset_after, prev_unset_before};
-ghost use Rattle.slotset.specs.Answers.{person_row, person_stretch_row, row_slots, found_as, yes_no_as, number_as, row_run, row_next_run};
+ghost use Rattle.slotset.specs.Answers.{person_row, person_stretch_row, row_slots, row_run, row_next_run};
+ghost use Rattle.paper.specs.Rows.{answer_as};
 ghost use Rattle.slotset.specs.Answers.{row_next_member, put_of, row_stretch_of};
 ghost use Rattle.boltraven_c.specs.Numbers.{found_number, yes_no_number, plain_number, run_number, run_first, run_last, next_run_number};
 ghost use Rattle.boltraven_c.specs.Numbers.{next_run_first, next_run_last, next_run_cursor, member_number, member_at, member_cursor};
@@ -21,7 +22,7 @@ pub extern "C" fn boltraven_contains(
     person: usize,
     i: usize,
 ) -> u64
-    ensures { result ≡ yes_no_number (yes_no_as (number_of (person_row words.now people person len))
+    ensures { result ≡ yes_no_number (answer_as (number_of (person_row words.now people person len))
         (has (row_slots words.now person) len i)) }
 {
     yes_no_number(row::contains(people, len, words, person, i))
@@ -30,7 +31,7 @@ pub extern "C" fn boltraven_contains(
 // Whether the row has no member: 1 or 0.
 #[unsafe(no_mangle)]
 pub extern "C" fn boltraven_is_empty(people: usize, len: usize, words: &[u64], person: usize) -> u64
-    ensures { result ≡ yes_no_number (yes_no_as (number_of (person_row words.now people person len))
+    ensures { result ≡ yes_no_number (answer_as (number_of (person_row words.now people person len))
         (has_no_member (row_slots words.now person) len)) }
 {
     yes_no_number(row::is_empty(people, len, words, person))
@@ -39,7 +40,7 @@ pub extern "C" fn boltraven_is_empty(people: usize, len: usize, words: &[u64], p
 // How many members the row has.
 #[unsafe(no_mangle)]
 pub extern "C" fn boltraven_count(people: usize, len: usize, words: &[u64], person: usize) -> u64
-    ensures { result ≡ plain_number (number_as (number_of (person_row words.now people person len))
+    ensures { result ≡ plain_number (answer_as (number_of (person_row words.now people person len))
         (size (row_slots words.now person) len)) }
 {
     plain_number(row::count(people, len, words, person))
@@ -54,7 +55,7 @@ pub extern "C" fn boltraven_next_set(
     person: usize,
     from: usize,
 ) -> u64
-    ensures { result ≡ found_number (found_as (number_of (person_row words.now people person len))
+    ensures { result ≡ found_number (answer_as (number_of (person_row words.now people person len))
         (next_set (row_slots words.now person) len from)) }
 {
     found_number(row::next_set(people, len, words, person, from))
@@ -69,7 +70,7 @@ pub extern "C" fn boltraven_prev_set(
     person: usize,
     from: usize,
 ) -> u64
-    ensures { result ≡ found_number (found_as (number_of (person_row words.now people person len))
+    ensures { result ≡ found_number (answer_as (number_of (person_row words.now people person len))
         (prev_set (row_slots words.now person) len from)) }
 {
     found_number(row::prev_set(people, len, words, person, from))
@@ -84,7 +85,7 @@ pub extern "C" fn boltraven_next_unset_after(
     person: usize,
     from: usize,
 ) -> u64
-    ensures { result ≡ found_number (found_as (number_of (person_row words.now people person len))
+    ensures { result ≡ found_number (answer_as (number_of (person_row words.now people person len))
         (next_unset_after (row_slots words.now person) len from)) }
 {
     found_number(row::next_unset_after(people, len, words, person, from))
@@ -99,7 +100,7 @@ pub extern "C" fn boltraven_prev_unset_before(
     person: usize,
     from: usize,
 ) -> u64
-    ensures { result ≡ found_number (found_as (number_of (person_row words.now people person len))
+    ensures { result ≡ found_number (answer_as (number_of (person_row words.now people person len))
         (prev_unset_before (row_slots words.now person) len from)) }
 {
     found_number(row::prev_unset_before(people, len, words, person, from))
@@ -122,26 +123,29 @@ pub extern "C" fn boltraven_run_bounds(
     ensures last_after { last.new
         ≡ run_last last.old (row_run words.now people person len i) }
 {
-    let run = row::run_bounds(people, len, words, person, i);
-    match run {
-        Run::Span {
-            first: low,
-            last: high,
-        } => {
+    match row::run_bounds(people, len, words, person, i) {
+        Ok(
+            Run::Span {
+                first: low,
+                last: high,
+            },
+        ) => {
             *first = low as u64;
             *last = high as u64;
             0
         }
-        Run::Hole {
-            first: low,
-            last: high,
-        } => {
+        Ok(
+            Run::Hole {
+                first: low,
+                last: high,
+            },
+        ) => {
             *first = low as u64;
             *last = high as u64;
             1
         }
-        Run::Outside => NOTHING,
-        Run::Refused(n) => refused(n),
+        Ok(Run::Outside) => NOTHING,
+        Err(n) => refused(n),
     }
 }
 
@@ -165,20 +169,23 @@ pub extern "C" fn boltraven_next_run(
     ensures next_after { next.new
         ≡ next_run_cursor next.old (row_next_run words.now people person len cursor) }
 {
-    let run = row::next_run(people, len, words, person, Cursor { at: cursor });
-    match run {
-        NextRun::Span {
-            first: low,
-            last: high,
-            next: after,
-        } => {
+    match row::next_run(people, len, words, person, Cursor { at: cursor }) {
+        Ok(
+            Some(
+                NextRun {
+                    first: low,
+                    last: high,
+                    next: after,
+                },
+            ),
+        ) => {
             *first = low as u64;
             *last = high as u64;
             *next = after.at as u64;
             0
         }
-        NextRun::Done => NOTHING,
-        NextRun::Refused(n) => refused(n),
+        Ok(None) => NOTHING,
+        Err(n) => refused(n),
     }
 }
 
@@ -199,18 +206,21 @@ pub extern "C" fn boltraven_next_member(
     ensures next_after { next.new
         ≡ member_cursor next.old (row_next_member words.now people person len cursor) }
 {
-    let member = row::next_member(people, len, words, person, Cursor { at: cursor });
-    match member {
-        NextMember::Slot {
-            at: slot,
-            next: after,
-        } => {
+    match row::next_member(people, len, words, person, Cursor { at: cursor }) {
+        Ok(
+            Some(
+                NextMember {
+                    at: slot,
+                    next: after,
+                },
+            ),
+        ) => {
             *at = slot as u64;
             *next = after.at as u64;
             0
         }
-        NextMember::Done => NOTHING,
-        NextMember::Refused(n) => refused(n),
+        Ok(None) => NOTHING,
+        Err(n) => refused(n),
     }
 }
 

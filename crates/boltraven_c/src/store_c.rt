@@ -1,13 +1,14 @@
 // A store of settings. Settings come as their six numbers, and are handed back through six addresses.
 ghost use Rattle.std.specs.Prelude.{◌≡◌};
-ghost use Rattle.store.specs.Outcome.{count_is, save_is, ask_is, saved_refusal};
+ghost use Rattle.store.specs.Outcome.{count_is, save_is, ask_is};
+ghost use Rattle.paper.specs.Rows.{answer_refusal};
 ghost use Rattle.boltraven_c.specs.Numbers.{plain_number};
 ghost use Rattle.boltraven_c.specs.Units.{settings_of};
 ghost use Rattle.boltraven_c.specs.Store.{saved_number, saved_used, asked_number, asked_figure};
 
 use crate::answers::plain_number;
 use crate::refused;
-use store::{Asked, Saved};
+use store::Asked;
 use units::Settings;
 
 // How many settings records the area has.
@@ -32,7 +33,7 @@ pub extern "C" fn boltraven_save_settings(
     number: &mut u64,
     new_used: &mut u64,
 ) -> u8
-    ensures value { result ≡ saved_refusal (save_is area.old used (settings_of fairness lock boundary edition value days)).answer }
+    ensures value { result ≡ answer_refusal (save_is area.old used (settings_of fairness lock boundary edition value days)).answer }
     ensures area_after { area.new ≡ (save_is area.old used (settings_of fairness lock boundary edition value days)).area }
     ensures number_after { number.new ≡ saved_number number.old
         (save_is area.old used (settings_of fairness lock boundary edition value days)).answer }
@@ -47,17 +48,13 @@ pub extern "C" fn boltraven_save_settings(
         value,
         days,
     };
-    let answer = store::save(area, used, settings);
-    match answer {
-        Saved::As {
-            number: k,
-            used: end,
-        } => {
-            *number = k;
-            *new_used = end;
+    match store::save(area, used, settings) {
+        Ok(saved) => {
+            *number = saved.number;
+            *new_used = saved.used;
             0
         }
-        Saved::Refused(n) => n,
+        Err(n) => n,
     }
 }
 
@@ -82,9 +79,8 @@ pub extern "C" fn boltraven_ask_settings(
     ensures value_after { value.new ≡ asked_figure (λ s. s.value) value.old (ask_is area.now used number) }
     ensures days_after { days.new ≡ asked_figure (λ s. s.days) days.old (ask_is area.now used number) }
 {
-    let answer = store::ask(area, used, number);
-    match answer {
-        Asked::Is(s) => {
+    match store::ask(area, used, number) {
+        Ok(Asked::Is(s)) => {
             *fairness = s.fairness;
             *lock = s.lock;
             *boundary = s.boundary;
@@ -93,7 +89,7 @@ pub extern "C" fn boltraven_ask_settings(
             *days = s.days;
             0
         }
-        Asked::Newer => 1,
-        Asked::Refused(n) => refused(n),
+        Ok(Asked::Newer) => 1,
+        Err(n) => refused(n),
     }
 }

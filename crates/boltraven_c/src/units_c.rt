@@ -4,16 +4,15 @@ ghost use Rattle.units.specs.Dates.{date_of, weekday_of};
 ghost use Rattle.paper.specs.Limits.{number_of};
 ghost use Rattle.units.specs.Domains.{slot_domain_is, unit_domain_is, unit_domains_row, unit_domains_is, unit_frozen_is};
 ghost use Rattle.boltraven_c.specs.Numbers.{yes_no_number, plain_number, number_is, minutes_written};
-ghost use Rattle.slotset.specs.Answers.{number_refusal};
-ghost use Rattle.slots.specs.Lent.{minutes_refusal};
+ghost use Rattle.paper.specs.Rows.{answer_refusal};
 ghost use Rattle.units.specs.Days.{covered_days_is, minutes_per_day_is, target_run_is};
 ghost use Rattle.units.specs.Achievable.{achievable_run_is, achievable_runs_row, achievable_runs_is};
 ghost use Rattle.boltraven_c.specs.Units.{settings_of, span_from, span_to};
-ghost use Rattle.units.specs.Answers.{unit_slots_is, unit_of_slot_is, span_refusal};
+ghost use Rattle.units.specs.Answers.{unit_slots_is, unit_of_slot_is};
 ghost use Rattle.units.specs.Starts.{rotation_starts_is, unit_starts_is};
 
 use crate::answers::{plain_number, put_minutes, put_number, yes_no_number};
-use units::{Settings, UnitSlots};
+use units::Settings;
 
 // The date of a minute, in days from 1970-01-01 on.
 #[unsafe(no_mangle)]
@@ -105,7 +104,7 @@ pub extern "C" fn boltraven_covered_days(
     ends: &[u32],
     out: &mut u64,
 ) -> u8
-    ensures value { result ≡ number_refusal (covered_days_is slots starts.now ends.now) }
+    ensures value { result ≡ answer_refusal (covered_days_is slots starts.now ends.now) }
     ensures out_after { out.new
         ≡ number_is out.old (covered_days_is slots starts.now ends.now) }
 {
@@ -121,7 +120,7 @@ pub extern "C" fn boltraven_minutes_per_day(
     ends: &[u32],
     out: &mut u64,
 ) -> u8
-    ensures value { result ≡ minutes_refusal (minutes_per_day_is slots starts.now ends.now) }
+    ensures value { result ≡ answer_refusal (minutes_per_day_is slots starts.now ends.now) }
     ensures out_after { out.new
         ≡ minutes_written out.old (minutes_per_day_is slots starts.now ends.now) }
 {
@@ -143,7 +142,7 @@ pub extern "C" fn boltraven_target_run(
     ends: &[u32],
     out: &mut u64,
 ) -> u8
-    ensures value { result ≡ minutes_refusal
+    ensures value { result ≡ answer_refusal
         (target_run_is (settings_of fairness lock boundary edition value days) slots starts.now ends.now) }
     ensures out_after { out.new ≡ minutes_written out.old
         (target_run_is (settings_of fairness lock boundary edition value days) slots starts.now ends.now) }
@@ -177,7 +176,7 @@ pub extern "C" fn boltraven_achievable_run(
     person: usize,
     out: &mut u64,
 ) -> u8
-    ensures value { result ≡ minutes_refusal
+    ensures value { result ≡ answer_refusal
         (achievable_run_is (settings_of fairness lock boundary edition value days) avail.now people person slots
         starts.now ends.now) }
     ensures out_after { out.new ≡ minutes_written out.old
@@ -304,21 +303,17 @@ pub extern "C" fn boltraven_unit_slots(
     from: &mut u64,
     to: &mut u64,
 ) -> u8
-    ensures value { result ≡ span_refusal (unit_slots_is slots units unit_starts.now unit) }
+    ensures value { result ≡ answer_refusal (unit_slots_is slots units unit_starts.now unit) }
     ensures from_after { from.new ≡ span_from from.old (unit_slots_is slots units unit_starts.now unit) }
     ensures to_after { to.new ≡ span_to to.old (unit_slots_is slots units unit_starts.now unit) }
 {
-    let span = units::unit_slots(slots, units, unit_starts, unit);
-    match span {
-        UnitSlots::Span {
-            from: low,
-            to: high,
-        } => {
-            *from = low as u64;
-            *to = high as u64;
+    match units::unit_slots(slots, units, unit_starts, unit) {
+        Ok(span) => {
+            *from = span.from as u64;
+            *to = span.to as u64;
             0
         }
-        UnitSlots::Refused(n) => n,
+        Err(n) => n,
     }
 }
 

@@ -8,17 +8,17 @@ use crate::refused;
 use usable::Verdict;
 
 // 0 where it may be used, else the first broken rule, 1 to 5, with its slot written where it was asked for; or the refusal.
-fn put_verdict(verdict: Verdict, out: &mut u64) -> u64
+fn put_verdict(verdict: Result<Verdict, u8>, out: &mut u64) -> u64
     ensures value { result ≡ verdict_number verdict }
     ensures out_after { out.new ≡ verdict_slot out.old verdict }
 {
     match verdict {
-        Verdict::Usable => 0,
-        Verdict::Broken { rule, slot } => {
+        Ok(Verdict::Usable) => 0,
+        Ok(Verdict::Broken { rule, slot }) => {
             *out = slot as u64;
             rule as u64
         }
-        Verdict::Refused(n) => refused(n),
+        Err(n) => refused(n),
     }
 }
 

@@ -50,14 +50,14 @@ pub extern "C" fn boltraven_way_back(
         seconds,
     );
     match way {
-        Way::Draws(n) => {
+        Ok(Way::Draws(n)) => {
             *told = n as u64;
             0
         }
-        Way::NoWay(unit) => {
+        Ok(Way::NoWay(unit)) => {
             *told = unit as u64;
             NOTHING
         }
-        Way::Refused(refusal) => refusal_number(refusal),
+        Err(refusal) => refusal_number(refusal),
     }
 }

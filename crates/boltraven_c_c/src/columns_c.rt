@@ -1,7 +1,7 @@
 // The published owners and the draft's side by side.
 ghost use Rattle.std.specs.Prelude.{◌≡◌, length};
 ghost use Rattle.paper.specs.Limits.{number_of};
-ghost use Rattle.slotset.specs.Answers.{yes_no_as};
+ghost use Rattle.paper.specs.Rows.{answer_as};
 ghost use Rattle.columns.specs.Parts.{columns_row, stretch_row, is_frozen};
 ghost use Rattle.columns.specs.Publishing.{publish_of, show_row, show_of};
 ghost use Rattle.boltraven_c.specs.Numbers.{yes_no_number};
@@ -19,7 +19,7 @@ pub extern "C" fn boltraven_stretch<'a>(
     length: &mut u64,
 ) -> u64
     ensures value { result ≡ yes_no_number
-        (yes_no_as (number_of (stretch_row slots published.now draft.now frozen.now slot))
+        (answer_as (number_of (stretch_row slots published.now draft.now frozen.now slot))
         (is_frozen frozen.now slot)) }
     ensures length_after { length.new
         ≡ part_length length.old slots published.now draft.now frozen.now slot }

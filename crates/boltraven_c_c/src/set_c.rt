@@ -3,14 +3,15 @@ ghost use Rattle.std.specs.Prelude.{◌≡◌};
 ghost use Rattle.paper.specs.Limits.{number_of};
 ghost use Rattle.slotset.specs.Slots.{has, size, has_no_member};
 ghost use Rattle.slotset.specs.Search.{next_set, prev_set, next_unset_after, prev_unset_before};
-ghost use Rattle.slotset.specs.Answers.{set_row, set_slots, found_as, yes_no_as, number_as, set_run, set_next_member};
+ghost use Rattle.slotset.specs.Answers.{set_row, set_slots, set_run, set_next_member};
+ghost use Rattle.paper.specs.Rows.{answer_as};
 ghost use Rattle.boltraven_c.specs.Numbers.{found_number, yes_no_number, plain_number, run_number, run_first, run_last};
 ghost use Rattle.boltraven_c.specs.Numbers.{member_number, member_at, member_cursor};
 
 // Whether slot i is a member: 1 or 0.
 #[unsafe(no_mangle)]
 pub extern "C" fn boltraven_set_contains(len: usize, words: &[u64], i: usize) -> u64
-    ensures { result ≡ yes_no_number (yes_no_as (number_of (set_row words.now len))
+    ensures { result ≡ yes_no_number (answer_as (number_of (set_row words.now len))
         (has (set_slots words.now) len i)) }
 {
     boltraven_c::set_c::boltraven_set_contains(len, words, i)
@@ -19,7 +20,7 @@ pub extern "C" fn boltraven_set_contains(len: usize, words: &[u64], i: usize) ->
 // Whether the set has no member: 1 or 0.
 #[unsafe(no_mangle)]
 pub extern "C" fn boltraven_set_is_empty(len: usize, words: &[u64]) -> u64
-    ensures { result ≡ yes_no_number (yes_no_as (number_of (set_row words.now len))
+    ensures { result ≡ yes_no_number (answer_as (number_of (set_row words.now len))
         (has_no_member (set_slots words.now) len)) }
 {
     boltraven_c::set_c::boltraven_set_is_empty(len, words)
@@ -28,7 +29,7 @@ pub extern "C" fn boltraven_set_is_empty(len: usize, words: &[u64]) -> u64
 // How many members the set has.
 #[unsafe(no_mangle)]
 pub extern "C" fn boltraven_set_count(len: usize, words: &[u64]) -> u64
-    ensures { result ≡ plain_number (number_as (number_of (set_row words.now len))
+    ensures { result ≡ plain_number (answer_as (number_of (set_row words.now len))
         (size (set_slots words.now) len)) }
 {
     boltraven_c::set_c::boltraven_set_count(len, words)
@@ -37,7 +38,7 @@ pub extern "C" fn boltraven_set_count(len: usize, words: &[u64]) -> u64
 // The first member at or after `from`.
 #[unsafe(no_mangle)]
 pub extern "C" fn boltraven_set_next_set(len: usize, words: &[u64], from: usize) -> u64
-    ensures { result ≡ found_number (found_as (number_of (set_row words.now len))
+    ensures { result ≡ found_number (answer_as (number_of (set_row words.now len))
         (next_set (set_slots words.now) len from)) }
 {
     boltraven_c::set_c::boltraven_set_next_set(len, words, from)
@@ -46,7 +47,7 @@ pub extern "C" fn boltraven_set_next_set(len: usize, words: &[u64], from: usize)
 // The last member at or before `from`.
 #[unsafe(no_mangle)]
 pub extern "C" fn boltraven_set_prev_set(len: usize, words: &[u64], from: usize) -> u64
-    ensures { result ≡ found_number (found_as (number_of (set_row words.now len))
+    ensures { result ≡ found_number (answer_as (number_of (set_row words.now len))
         (prev_set (set_slots words.now) len from)) }
 {
     boltraven_c::set_c::boltraven_set_prev_set(len, words, from)
@@ -55,7 +56,7 @@ pub extern "C" fn boltraven_set_prev_set(len: usize, words: &[u64], from: usize)
 // The first slot after `from`, below the length, that is no member.
 #[unsafe(no_mangle)]
 pub extern "C" fn boltraven_set_next_unset_after(len: usize, words: &[u64], from: usize) -> u64
-    ensures { result ≡ found_number (found_as (number_of (set_row words.now len))
+    ensures { result ≡ found_number (answer_as (number_of (set_row words.now len))
         (next_unset_after (set_slots words.now) len from)) }
 {
     boltraven_c::set_c::boltraven_set_next_unset_after(len, words, from)
@@ -64,7 +65,7 @@ pub extern "C" fn boltraven_set_next_unset_after(len: usize, words: &[u64], from
 // The last slot before `from`, below the length, that is no member.
 #[unsafe(no_mangle)]
 pub extern "C" fn boltraven_set_prev_unset_before(len: usize, words: &[u64], from: usize) -> u64
-    ensures { result ≡ found_number (found_as (number_of (set_row words.now len))
+    ensures { result ≡ found_number (answer_as (number_of (set_row words.now len))
         (prev_unset_before (set_slots words.now) len from)) }
 {
     boltraven_c::set_c::boltraven_set_prev_unset_before(len, words, from)

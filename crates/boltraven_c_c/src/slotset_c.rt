@@ -3,7 +3,8 @@ ghost use Rattle.std.specs.Prelude.{◌≡◌, ◌+◌};
 ghost use Rattle.paper.specs.Limits.{number_of};
 ghost use Rattle.slotset.specs.Slots.{has, size, has_no_member, value_of};
 ghost use Rattle.slotset.specs.Search.{next_set, prev_set, next_unset_after, prev_unset_before};
-ghost use Rattle.slotset.specs.Answers.{person_row, person_stretch_row, row_slots, found_as, yes_no_as, number_as, row_run, row_next_run};
+ghost use Rattle.slotset.specs.Answers.{person_row, person_stretch_row, row_slots, row_run, row_next_run};
+ghost use Rattle.paper.specs.Rows.{answer_as};
 ghost use Rattle.slotset.specs.Answers.{row_next_member, row_stretch_of};
 ghost use Rattle.boltraven_c.specs.Numbers.{found_number, yes_no_number, plain_number, run_number, run_first, run_last, next_run_number};
 ghost use Rattle.boltraven_c.specs.Numbers.{next_run_first, next_run_last, next_run_cursor, member_number, member_at, member_cursor};
@@ -17,7 +18,7 @@ pub extern "C" fn boltraven_contains(
     person: usize,
     i: usize,
 ) -> u64
-    ensures { result ≡ yes_no_number (yes_no_as (number_of (person_row words.now people person len))
+    ensures { result ≡ yes_no_number (answer_as (number_of (person_row words.now people person len))
         (has (row_slots words.now person) len i)) }
 {
     boltraven_c::slotset_c::boltraven_contains(people, len, words, person, i)
@@ -26,7 +27,7 @@ pub extern "C" fn boltraven_contains(
 // Whether the row has no member: 1 or 0.
 #[unsafe(no_mangle)]
 pub extern "C" fn boltraven_is_empty(people: usize, len: usize, words: &[u64], person: usize) -> u64
-    ensures { result ≡ yes_no_number (yes_no_as (number_of (person_row words.now people person len))
+    ensures { result ≡ yes_no_number (answer_as (number_of (person_row words.now people person len))
         (has_no_member (row_slots words.now person) len)) }
 {
     boltraven_c::slotset_c::boltraven_is_empty(people, len, words, person)
@@ -35,7 +36,7 @@ pub extern "C" fn boltraven_is_empty(people: usize, len: usize, words: &[u64], p
 // How many members the row has.
 #[unsafe(no_mangle)]
 pub extern "C" fn boltraven_count(people: usize, len: usize, words: &[u64], person: usize) -> u64
-    ensures { result ≡ plain_number (number_as (number_of (person_row words.now people person len))
+    ensures { result ≡ plain_number (answer_as (number_of (person_row words.now people person len))
         (size (row_slots words.now person) len)) }
 {
     boltraven_c::slotset_c::boltraven_count(people, len, words, person)
@@ -50,7 +51,7 @@ pub extern "C" fn boltraven_next_set(
     person: usize,
     from: usize,
 ) -> u64
-    ensures { result ≡ found_number (found_as (number_of (person_row words.now people person len))
+    ensures { result ≡ found_number (answer_as (number_of (person_row words.now people person len))
         (next_set (row_slots words.now person) len from)) }
 {
     boltraven_c::slotset_c::boltraven_next_set(people, len, words, person, from)
@@ -65,7 +66,7 @@ pub extern "C" fn boltraven_prev_set(
     person: usize,
     from: usize,
 ) -> u64
-    ensures { result ≡ found_number (found_as (number_of (person_row words.now people person len))
+    ensures { result ≡ found_number (answer_as (number_of (person_row words.now people person len))
         (prev_set (row_slots words.now person) len from)) }
 {
     boltraven_c::slotset_c::boltraven_prev_set(people, len, words, person, from)
@@ -80,7 +81,7 @@ pub extern "C" fn boltraven_next_unset_after(
     person: usize,
     from: usize,
 ) -> u64
-    ensures { result ≡ found_number (found_as (number_of (person_row words.now people person len))
+    ensures { result ≡ found_number (answer_as (number_of (person_row words.now people person len))
         (next_unset_after (row_slots words.now person) len from)) }
 {
     boltraven_c::slotset_c::boltraven_next_unset_after(people, len, words, person, from)
@@ -95,7 +96,7 @@ pub extern "C" fn boltraven_prev_unset_before(
     person: usize,
     from: usize,
 ) -> u64
-    ensures { result ≡ found_number (found_as (number_of (person_row words.now people person len))
+    ensures { result ≡ found_number (answer_as (number_of (person_row words.now people person len))
         (prev_unset_before (row_slots words.now person) len from)) }
 {
     boltraven_c::slotset_c::boltraven_prev_unset_before(people, len, words, person, from)

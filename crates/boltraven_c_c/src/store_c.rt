@@ -1,6 +1,7 @@
 // A store of settings. Settings come as their six numbers, and are handed back through six addresses.
 ghost use Rattle.std.specs.Prelude.{◌≡◌};
-ghost use Rattle.store.specs.Outcome.{count_is, save_is, ask_is, saved_refusal};
+ghost use Rattle.store.specs.Outcome.{count_is, save_is, ask_is};
+ghost use Rattle.paper.specs.Rows.{answer_refusal};
 ghost use Rattle.boltraven_c.specs.Numbers.{plain_number};
 ghost use Rattle.boltraven_c.specs.Units.{settings_of};
 ghost use Rattle.boltraven_c.specs.Store.{saved_number, saved_used, asked_number, asked_figure};
@@ -27,7 +28,7 @@ pub extern "C" fn boltraven_save_settings(
     number: &mut u64,
     new_used: &mut u64,
 ) -> u8
-    ensures value { result ≡ saved_refusal (save_is area.old used (settings_of fairness lock boundary edition value days)).answer }
+    ensures value { result ≡ answer_refusal (save_is area.old used (settings_of fairness lock boundary edition value days)).answer }
     ensures area_after { area.new ≡ (save_is area.old used (settings_of fairness lock boundary edition value days)).area }
     ensures number_after { number.new ≡ saved_number number.old
         (save_is area.old used (settings_of fairness lock boundary edition value days)).answer }

@@ -4,7 +4,7 @@
 
 ghost use Rattle.std.specs.Prelude.{◌≡◌, ◌≤◌, length};
 
-use job::{Begun, Ending, JobAnswer};
+use job::{Begun, Ending};
 use program::Request;
 use replay::Played;
 use std::io;
@@ -19,19 +19,6 @@ struct Window {
     failed: Option<io::Error>,
 }
 
-// Moves the bytes from `at` up to `count` to the front; how many they are.
-fn to_front(buf: &mut [u8], at: usize, count: usize) -> usize
-    requires { (at ≤ count) × (count ≤ length buf.old) }
-    ensures { result ≤ length buf.new }
-{
-    let mut k: usize = 0;
-    while k < count - at {
-        buf[k] = buf[at + k];
-        k += 1;
-    }
-    k
-}
-
 // A window that holds the next block whole, or all that is left of the file.
 fn refill<R: Read>(from: &mut R, buf: &mut [u8], w: Window) -> Window
     requires { (w.at ≤ w.count) × (w.count ≤ length buf.old) }
@@ -43,8 +30,8 @@ fn refill<R: Read>(from: &mut R, buf: &mut [u8], w: Window) -> Window
     if replay::WINDOW_LEAST <= w.count - w.at {
         return w;
     }
-    let kept = to_front(buf, w.at, w.count);
-    let input = program::read_on(from, buf, kept);
+    buf.copy_within(w.at..w.count, 0);
+    let input = program::read_on(from, buf, w.count - w.at);
     Window {
         at: 0,
         count: input.count,
@@ -58,20 +45,9 @@ fn after(w: Window, used: usize) -> Window
     requires { w.at ≤ w.count }
     ensures { (result.at ≤ result.count) × (result.count ≡ w.count) }
 {
-    let left = w.count - w.at;
-    if used <= left {
-        return Window {
-            at: w.at + used,
-            count: w.count,
-            ended: w.ended,
-            failed: w.failed,
-        };
-    }
     Window {
-        at: w.count,
-        count: w.count,
-        ended: w.ended,
-        failed: w.failed,
+        at: w.at + used.min(w.count - w.at),
+        ..w
     }
 }
 
@@ -80,8 +56,8 @@ fn print_last(rt: &impl Print, end: Ending) -> io::Result<()> {
     let mut line = [0u8; 64];
     let answer = job::last_line(end, &mut line);
     match answer {
-        JobAnswer::Length(n) => program::print_text(rt, n, &line),
-        JobAnswer::Refused(_) => Ok(()),
+        Ok(n) => program::print_text(rt, n, &line),
+        Err(_) => Ok(()),
     }
 }
 
@@ -108,8 +84,7 @@ fn play_blocks<R: Read>(
     let mut totals = b.totals;
     let mut out = [0u8; 65536];
     let mut w = first;
-    let mut block: usize = 0;
-    while block <= replay::BLOCKS_MOST {
+    for block in 0..=replay::BLOCKS_MOST {
         w = refill(from, buf, w);
         if let Some(error) = w.failed {
             return program::fail(&mut rt.stderr(), what, error);
@@ -138,7 +113,6 @@ fn play_blocks<R: Read>(
             Played::More { length, next } => {
                 program::print_text(rt, length, &out)?;
                 w = after(w, next);
-                block += 1;
             }
             Played::Last { length, end } => {
                 program::print_text(rt, length, &out)?;

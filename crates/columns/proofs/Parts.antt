@@ -1,4 +1,5 @@
 -- The part that a slot has: it ends at the next change, and only there; and what the rows of tests say. Assumes nothing.
+use Rattle.std.specs.Prelude.{Option, Some, None, Result, Ok}
 use mathlib.Core.Path.{◌≡◌, refl, sym, ap, subst, ◌∙◌}
 use mathlib.Core.Bool.{Bool, true, false, true≢false, not, cond}
 use mathlib.Core.Logic.{⊎_elim}
@@ -14,18 +15,17 @@ use denote.Ref.{Bor}
 use Rattle.paper.specs.Limits.{people_ok, number_of}
 use Rattle.paper.proofs.Rows.{passed, worked, kept}
 use Rattle.paper.proofs.Logic.{slot-count-says, lt-or-ge, zero_of, one_of}
-use Rattle.slotset.specs.declared.Found.{Found}
-use Rattle.slotset.specs.declared.Found.TheVariants.{At, Nothing, Refused}
 use Rattle.slotset.specs.Slots.{slot}
 use Rattle.slotset.specs.Search.{First, next_with, next_set, next_unset_after}
-use Rattle.slotset.specs.Answers.{person_row, found_as}
+use Rattle.slotset.specs.Answers.{person_row}
+use Rattle.paper.specs.Rows.{answer_as}
 use Rattle.slotset.proofs.Puts.{slot_lt}
 use Rattle.slotset.proofs.Meaning.{next-is}
 use Rattle.slotset.proofs.Refusals.{says_row}
 use Rattle.columns.specs.Parts.{columns_row, stretch_row, is_frozen, found_or, next_change, EndsAt, Part, part_at, no_part, stretch_of}
 use Rattle.columns.specs.Parts.{IsPart}
 use Rattle.columns.specs.Publishing.{show_row}
-use Rattle.columns.specs.Inside.{Sound}
+use Rattle.columns.specs.Inside.{Sound, answered_or}
 
 -- ---- where nothing is refused
 
@@ -87,18 +87,17 @@ module _ (frozen : List ℕ) (i e : ℕ) where
   unfolding is_frozen
   other_at q = other-bit (slot frozen 0 i) (slot frozen 0 e) (slot_lt frozen 0 i) q
 
-ends_by : (slots : ℕ) (frozen : List ℕ) (i : ℕ) (r : Found) → i < slots
+ends_by : (slots : ℕ) (frozen : List ℕ) (i : ℕ) (r : Option ℕ) → i < slots
     → First (1 - slot frozen 0 i) (slot frozen 0) slots (suc i) r → EndsAt slots frozen i (found_or slots r)
-ends_by slots frozen i (At k) h w =
+ends_by slots frozen i (Some k) h w =
     record {
       later = w.0;
       within = omega (arith, w.1);
       alike = alike_from frozen i k w.3;
       changes = λ _. other_at frozen i k w.2;
     }
-ends_by slots frozen i Nothing h w =
+ends_by slots frozen i None h w =
     record { later = h; within = omega arith; alike = alike_from frozen i slots w; changes = λ b. absurd (omega (arith, b)) }
-ends_by slots frozen i (Refused n) h w = absurd w
 
 -- the part of a slot ends at the next change
 pub change-is : (slots : ℕ) (frozen : List ℕ) (i : ℕ) → i < slots → EndsAt slots frozen i (next_change slots frozen i)
@@ -128,39 +127,39 @@ change-unique slots frozen i e h E =
 -- ---- how the code finds it: by a search of a row of its own
 
 module _ (slots : ℕ) (frozen : List ℕ) (few : slots ≤ 1024) (room : 16 ≤ length frozen) where
-  search-says : (x : Found) (r : Found) → r ≡ found_as (number_of (person_row frozen 1 0 slots)) x → r ≡ x
-  unfolding found_as people_ok
+  search-says : (x : Option ℕ) (r : Result (Option ℕ) ℕ) → r ≡ answer_as (number_of (person_row frozen 1 0 slots)) x → r ≡ Ok x
+  unfolding answer_as people_ok
   search-says x r e =
-      e ∙ worked _ _ x (says_row frozen 1 0 slots refl few room (let q : 0 < 1 = omega arith in q))
+      e ∙ worked _ _ (Ok x) (says_row frozen 1 0 slots refl few room (let q : 0 < 1 = omega arith in q))
 
   module _ (i : ℕ) (inside : i < slots) where
-    change-by : (r : Found) (e : ℕ) → r ≡ next_with (1 - slot frozen 0 i) (slot frozen 0) slots (suc i) → e ≡ found_or slots r
+    change-by : (r : Result (Option ℕ) ℕ) (e : ℕ) → r ≡ Ok (next_with (1 - slot frozen 0 i) (slot frozen 0) slots (suc i)) → e ≡ answered_or slots r
         → (e ≡ next_change slots frozen i) × (i < e) × (e ≤ slots)
     unfolding next_change
     change-by r e q p =
         let C = change-is slots frozen i inside in
-        let same : e ≡ next_change slots frozen i = p ∙ ap (found_or slots) q in
+        let same : e ≡ next_change slots frozen i = p ∙ ap (answered_or slots) q in
         (same, omega (arith, same, C.later), omega (arith, same, C.within))
 
-    pub change-of-frozen : (f : Bool) → f ≡ is_frozen frozen i → f ≡ true → (r : Found)
-        → r ≡ found_as (number_of (person_row frozen 1 0 slots)) (next_unset_after (slot frozen 0) slots i) → (e : ℕ) → e ≡ found_or slots r
+    pub change-of-frozen : (f : Bool) → f ≡ is_frozen frozen i → f ≡ true → (r : Result (Option ℕ) ℕ)
+        → r ≡ answer_as (number_of (person_row frozen 1 0 slots)) (next_unset_after (slot frozen 0) slots i) → (e : ℕ) → e ≡ answered_or slots r
         → (e ≡ next_change slots frozen i) × (i < e) × (e ≤ slots)
     unfolding is_frozen
     change-of-frozen f is t r a e p =
         let one = eqb-true (slot frozen 0 i) 1 (sym is ∙ t) in
         let none : 0 ≡ 1 - slot frozen 0 i = omega (arith, one) in
-        change-by r e (search-says _ r a ∙ ap (λ (v : ℕ). next_with v (slot frozen 0) slots (suc i)) none) p
+        change-by r e (search-says _ r a ∙ ap (λ (v : ℕ). Ok (next_with v (slot frozen 0) slots (suc i))) none) p
 
-    pub change-of-open : (f : Bool) → f ≡ is_frozen frozen i → f ≡ false → (r : Found)
-        → r ≡ found_as (number_of (person_row frozen 1 0 slots)) (next_set (slot frozen 0) slots (i + 1)) → (e : ℕ) → e ≡ found_or slots r
+    pub change-of-open : (f : Bool) → f ≡ is_frozen frozen i → f ≡ false → (r : Result (Option ℕ) ℕ)
+        → r ≡ answer_as (number_of (person_row frozen 1 0 slots)) (next_set (slot frozen 0) slots (i + 1)) → (e : ℕ) → e ≡ answered_or slots r
         → (e ≡ next_change slots frozen i) × (i < e) × (e ≤ slots)
     unfolding is_frozen
     change-of-open f is t r a e p =
         let none = zero_of (slot frozen 0 i) (slot_lt frozen 0 i) (eqb-false (slot frozen 0 i) 1 (sym is ∙ t)) in
         let one : 1 ≡ 1 - slot frozen 0 i = omega (arith, none) in
         change-by r e
-        (search-says _ r a ∙ ap (next_with 1 (slot frozen 0) slots) (add-one i)
-        ∙ ap (λ (v : ℕ). next_with v (slot frozen 0) slots (suc i)) one) p
+        (search-says _ r a ∙ ap (λ (n : ℕ). Ok (next_with 1 (slot frozen 0) slots n)) (add-one i)
+        ∙ ap (λ (v : ℕ). Ok (next_with v (slot frozen 0) slots (suc i))) one) p
 
 -- ---- the part that is handed back
 

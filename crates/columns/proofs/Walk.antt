@@ -3,16 +3,19 @@ use mathlib.Core.Path.{◌≡◌, refl, sym, ap, ap₂, ◌∙◌}
 use mathlib.Core.Bool.{Bool, true, false, cond}
 use mathlib.Core.List.{List}
 use Prim.Native.Nat.{ℕ, zero, suc, ◌+◌, ◌-◌, ◌≤◌, ◌<◌, min}
-use native.Mathlib.Numerals.{add-one}
 use native.Mathlib.Decide.{ℕ_discrete}
 use native.Mathlib.Omega.{arith}
 use lib.ListN.{length, drop, get_or, set, length-set, length-take, length-drop}
-use lib.Seq.{get_or-set_same, get_or-set_other, ext_get_or, get_or-take, get_or-drop}
+use lib.Seq.{get_or-set_same, get_or-set_other, ext_get_or, get_or-take, get_or-drop, paste, paste-suc}
+use Rattle.std.proofs.Common.{append-nil}
+use Rattle.std.proofs.lemmas.List.{take-append-drop}
+use Rattle.std.proofs.lemmas.Slice.{put_mid-paste}
+use borrow.Rule.Slice.PartMut.{put_mid}
 use Rattle.paper.specs.Count.{over}
 use Rattle.paper.proofs.Count.{length_over, over-more, get_d-over-out}
 use Rattle.columns.specs.Parts.{is_frozen, next_change, part_at, owners_of}
 use Rattle.columns.specs.Publishing.{owner_read}
-use Rattle.columns.specs.Inside.{Sound, written_at}
+use Rattle.columns.specs.Inside.{Sound}
 use Rattle.columns.proofs.Parts.{change-is}
 
 -- the owner read of a slot, by its flag
@@ -49,22 +52,15 @@ module _ (p d f now : List ℕ) (k : ℕ) (r : Bool) (is : r ≡ is_frozen f k) 
 
 -- ---- part by part
 
-pub written_none : (g : ℕ → ℕ) (at : ℕ) (l : List ℕ) → l ≡ written_at g at 0 l
-unfolding written_at
-written_none g at l = refl
-
-pub written-more : (g : ℕ → ℕ) (at k : ℕ) (l : List ℕ) → written_at g at (k + 1) l ≡ set (written_at g at k l) (at + k) (g k)
-unfolding written_at
-written-more g at k l = ap (λ (n : ℕ). written_at g at n l) (add-one k)
-
--- what is written behind entries made anew makes anew that many more
-pub written_over : (g r : ℕ → ℕ) (at n : ℕ) (l : List ℕ) → ((k : ℕ) → k < n → g k ≡ r (at + k))
-    → written_at g at n (over r at l) ≡ over r (at + n) l
-unfolding written_at
-written_over g r at zero l h = ap (λ (x : ℕ). over r x l) (let q : at ≡ at + 0 = omega arith in q)
-written_over g r at (suc n) l h =
-    ap₂ (λ (m : List ℕ) (x : ℕ). set m (at + n) x) (written_over g r at n l (λ k b. h k (omega arith))) (h n (omega arith))
-    ∙ sym (over-more r (at + n) l) ∙ ap (λ (x : ℕ). over r x l) (let q : at + n + 1 ≡ at + suc n = omega arith in q)
+-- what is pasted behind entries made anew makes anew that many more
+pub pasted : (g : ℕ → ℕ) (at n : ℕ) (s l : List ℕ) → n ≤ length s → at + n ≤ length l → ((k : ℕ) → k < n → get_or s k 0 ≡ g (at + k))
+    → paste (over g at l) at s n ≡ over g (at + n) l
+pasted g at zero s l short room h =
+    let z : at + 0 ≡ at = omega arith in rw (z, append-nil) (take-append-drop at (over g at l))
+pasted g at (suc n) s l short room h =
+    sym (paste-suc (over g at l) at s n 0 (omega (arith, length_over g at l)) (omega arith))
+    ∙ ap₂ (λ (m : List ℕ) (x : ℕ). set m (at + n) x) (pasted g at n s l (omega arith) (omega arith) (λ k b. h k (omega arith))) (h n (omega arith))
+    ∙ sym (over-more g (at + n) l) ∙ ap (λ (x : ℕ). over g x l) (let q : at + n + 1 ≡ at + suc n = omega arith in q)
 
 -- a part has the owners that are read of its slots
 module _ (slots : ℕ) (p d f : List ℕ) (S : Sound slots p d f) (i : ℕ) (inside : i < slots) where
@@ -103,10 +99,11 @@ module _ (slots : ℕ) (p d f : List ℕ) (S : Sound slots p d f) (at : ℕ) (in
       let n = ap (λ (l : List ℕ). length l) is ∙ part_length slots p d f S at inside in
       (omega (arith, n, C.later), omega (arith, n, C.later, C.within))
 
-  pub part-more : (now l : List ℕ) → now ≡ over (owner_read p d f) at l
-      → written_at (λ k. get_or r k 0) at (length r) now ≡ over (owner_read p d f) (at + length r) l
-  part-more now l so =
+  pub part-more : (now l written : List ℕ) (k : ℕ) → k ≡ length r → written ≡ r → now ≡ over (owner_read p d f) at l → slots ≤ length l
+      → put_mid at k now written ≡ over (owner_read p d f) (at + length r) l
+  part-more now l written k long same so room =
       let n = ap (λ (x : List ℕ). length x) is ∙ part_length slots p d f S at inside in
-      ap (written_at (λ k. get_or r k 0) at (length r)) so
-      ∙ written_over (λ k. get_or r k 0) (owner_read p d f) at (length r) l
+      put_mid-paste at k now written r (length r) same (sym long) refl
+      ∙ ap (λ (x : List ℕ). paste x at r (length r)) so
+      ∙ pasted (owner_read p d f) at (length r) r l (omega arith) (omega (arith, part-ends.1))
       (λ k h. ap (λ (x : List ℕ). get_or x k 0) is ∙ part-reads slots p d f S at inside k (omega (arith, n, h)))

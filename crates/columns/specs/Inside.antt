@@ -1,6 +1,6 @@
--- What only contracts of private functions cite: columns and flags that were judged, and a list after a part was written into it.
--- Assumes nothing.
-use Rattle.std.specs.Prelude.{◌≡◌, List, ℕ, zero, suc, ◌+◌, ◌≤◌, length, set}
+-- What only contracts of private functions cite: columns and flags that were judged. Assumes nothing.
+use Rattle.std.specs.Prelude.{◌≡◌, List, ℕ, ◌≤◌, length, Option, Result, Ok, Err}
+use Rattle.columns.specs.Parts.{found_or}
 
 -- nothing stands against them
 pub record Sound (slots : ℕ) (published draft frozen : List ℕ) : Type 0 where
@@ -9,7 +9,7 @@ pub record Sound (slots : ℕ) (published draft frozen : List ℕ) : Type 0 wher
   pub room : slots ≤ length published
   pub flags : 16 ≤ length frozen
 
--- l with the n entries from `at` on set to what g gives, counted from 0
-unfoldable pub written_at : (ℕ → ℕ) → ℕ → ℕ → List ℕ → List ℕ
-written_at g at zero l = l
-written_at g at (suc n) l = set (written_at g at n l) (at + n) (g n)
+-- the slot that a row answered, else the count
+abbrev pub answered_or : ℕ → Result (Option ℕ) ℕ → ℕ
+answered_or slots (Ok x) = found_or slots x
+answered_or slots (Err n) = slots

@@ -1,10 +1,8 @@
 -- The part that a slot has, of the published owners or of the draft's, and the walk by such parts. Assumes nothing.
-use Rattle.std.specs.Prelude.{◌≡◌, Bool, true, not, cond, List, [], ◌∷◌, ◌++◌, ℕ, zero, suc, ◌+◌, ◌-◌, ◌≤◌, ◌<◌, eqb, ltb, leb, length, take, drop}
+use Rattle.std.specs.Prelude.{◌≡◌, Bool, true, not, cond, List, [], ◌∷◌, ◌++◌, ℕ, zero, suc, ◌+◌, ◌-◌, ◌≤◌, ◌<◌, eqb, ltb, leb, length, take, drop, Option, Some, None}
 use Rattle.std.specs.Borrow.{Bor}
 use Rattle.paper.specs.Limits.{set_words, slot_count_ok, Test, test, number_of}
 use Rattle.paper.specs.Rows.{unless}
-use Rattle.slotset.specs.declared.Found.{Found}
-use Rattle.slotset.specs.declared.Found.TheVariants.{At, Nothing, Refused}
 use Rattle.slotset.specs.Search.{next_with}
 use Rattle.slotset.specs.Slots.{slot}
 
@@ -32,10 +30,9 @@ unfoldable pub is_frozen : List ℕ → ℕ → Bool
 is_frozen frozen i = eqb (slot frozen 0 i) 1
 
 -- the slot found, else the count
-abbrev pub found_or : ℕ → Found → ℕ
-found_or slots (At k) = k
-found_or slots Nothing = slots
-found_or slots (Refused n) = slots
+abbrev pub found_or : ℕ → Option ℕ → ℕ
+found_or slots (Some k) = k
+found_or slots None = slots
 
 -- the next change: the first slot after i whose flag is the other one, else the count
 unfoldable pub next_change : ℕ → List ℕ → ℕ → ℕ

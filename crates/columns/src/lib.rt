@@ -2,17 +2,16 @@
 // and the draft elsewhere; draws are played on the draft alone.
 #![tactic(auto)]
 
-ghost use Rattle.std.specs.Prelude.{◌≡◌, ◌+◌, ◌≤◌, ◌<◌, length, get_or};
+ghost use Rattle.std.specs.Prelude.{◌≡◌, ◌≤◌, ◌<◌, length};
 ghost use Rattle.paper.specs.Limits.{number_of};
-ghost use Rattle.paper.specs.Rows.{refusal_of};
+ghost use Rattle.paper.specs.Rows.{refusal_of, answer_as};
 ghost use Rattle.paper.specs.Count.{over};
-ghost use Rattle.slotset.specs.Answers.{yes_no_as};
-ghost use Rattle.columns.specs.Parts.{columns_row, stretch_row, is_frozen, found_or, next_change, part_at, stretch_of, IsPart};
+ghost use Rattle.columns.specs.Parts.{columns_row, stretch_row, is_frozen, next_change, part_at, stretch_of, IsPart};
 ghost use Rattle.columns.specs.Publishing.{owner_read, publish_of, show_row, show_of};
-ghost use Rattle.columns.specs.Inside.{Sound, written_at};
+ghost use Rattle.columns.specs.Inside.{Sound, answered_or};
 
 use paper::Refusal;
-use slotset::{Found, YesNo, bit, row};
+use slotset::{bit, row};
 
 // What stands against two columns and their flags: 1 or 2.
 fn columns_refusal(slots: usize, published: &[u8], draft: &[u8], frozen: &[u64]) -> Refusal
@@ -52,28 +51,24 @@ pub fn is_published(
     draft: &[u8],
     frozen: &[u64],
     slot: usize,
-) -> YesNo
-    ensures { result ≡ yes_no_as (number_of (stretch_row slots published.now draft.now frozen.now slot))
+) -> Result<bool, u8>
+    ensures { result ≡ answer_as (number_of (stretch_row slots published.now draft.now frozen.now slot))
         (is_frozen frozen.now slot) }
 {
     let number = stretch_refusal(slots, published, draft, frozen, slot).number;
     if number == 0 {
-        if is_frozen(frozen, slot) {
-            return YesNo::Yes;
-        }
-        return YesNo::No;
+        return Ok(is_frozen(frozen, slot));
     }
-    YesNo::Refused(number)
+    Err(number)
 }
 
 // The slot found, else the count.
-fn found_or(slots: usize, found: Found) -> usize
-    ensures { result ≡ found_or slots found }
+fn found_or(slots: usize, found: Result<Option<usize>, u8>) -> usize
+    ensures { result ≡ answered_or slots found }
 {
     match found {
-        Found::At(k) => k,
-        Found::Nothing => slots,
-        Found::Refused(_) => slots,
+        Ok(Some(k)) => k,
+        Ok(None) | Err(_) => slots,
     }
 }
 
@@ -132,13 +127,9 @@ fn copy_open(slots: usize, draft: &[u8], frozen: &[u64], published: &mut [u8])
     ensures { published.new
         ≡ over (owner_read published.old draft.now frozen.now) slots published.old }
 {
-    let mut k = 0;
-    while k < slots {
-        if is_frozen(frozen, k) {
-            k += 1;
-        } else {
+    for k in 0..slots {
+        if !is_frozen(frozen, k) {
             published[k] = draft[k];
-            k += 1;
         }
     }
 }
@@ -156,19 +147,6 @@ pub fn publish(slots: usize, draft: &[u8], frozen: &[u64], published: &mut [u8])
     number
 }
 
-// A part's owners go into the list from slot `at` on.
-fn write_part(part: &[u8], shown: &mut [u8], at: usize)
-    requires { at + length part.now ≤ length shown.old }
-    ensures { shown.new
-        ≡ written_at (λ k. get_or part.now k 0) at (length part.now) shown.old }
-{
-    let mut k = 0;
-    while k < part.len() {
-        shown[at + k] = part[k];
-        k += 1;
-    }
-}
-
 // The walk by parts, from slot 0 on, into a list with room for them.
 fn show_parts<'a>(
     slots: usize,
@@ -183,10 +161,12 @@ fn show_parts<'a>(
         ≡ over (owner_read published.now draft.now frozen.now) slots shown.old }
 {
     let mut at = 0;
+    // a while: each step jumps to the end of the part found, so no range is walked
     while at < slots {
         let part = part_at(slots, published, draft, frozen, at);
-        write_part(part, shown, at);
-        at += part.len();
+        let upto = at + part.len();
+        shown[at..upto].copy_from_slice(part);
+        at = upto;
     }
 }
 

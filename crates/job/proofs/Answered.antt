@@ -10,7 +10,7 @@ use lib.Ieee.{binary64, of_bits}
 use lib.IntN.{pos}
 use lib.ListN.{length, get_or, replicate, length-map, length-replicate}
 use Rattle.paper.specs.Limits.{people_ok, slot_count_ok, or_else, Test, test, number_of}
-use Rattle.paper.specs.Rows.{unless}
+use Rattle.paper.specs.Rows.{unless, answer_refusal}
 use lib.Signed.{mag}
 use lib.ListN.{take}
 use Rattle.paper.specs.Count.{all}
@@ -31,7 +31,6 @@ use Rattle.targets.specs.Remainder.{sumℤ}
 use Rattle.targets.proofs.Promises.{targets-add-up}
 use Rattle.targets.proofs.Sized.{accepted-sized}
 use Rattle.owners.specs.Recount.{available_at}
-use Rattle.slotset.specs.Answers.{number_refusal}
 use Rattle.job.specs.Columns.{column, float_column}
 use Rattle.job.specs.Stages.{counted, block_start, people_of, job_counts_ok, ranges_of, capacities_of, priors_of, settings_in, instant_of}
 use Rattle.job.specs.Stages.{draws_of}
@@ -97,10 +96,10 @@ module _ (s : List ℕ) where
   unfolding atoms_of
   atoms_are = refl
 
-  atoms-number : Few → number_refusal (atoms_of s).answer ≡ number_of atom_tests
+  atoms-number : Few → answer_refusal (atoms_of s).answer ≡ number_of atom_tests
   unfolding number_of
   atoms-number e =
-      ap (λ (a : atomic.Atoms). number_refusal a.answer) atoms_are ∙ atoms-refused (base_of s) (base-fits e)
+      ap (λ (a : atomic.Atoms). answer_refusal a.answer) atoms_are ∙ atoms-refused (base_of s) (base-fits e)
 
   pub atoms-right : Few → number_of atom_tests ≡ 0
       → AtomsSound (base_of s) (ready_of s).slots (ready_of s).starts (ready_of s).ends
@@ -156,7 +155,7 @@ module _ (s : List ℕ) where
     shares-number = shares-refused _ (replicate 32 (pos 0)) shares-lent A.lent
 
     both-number : unless (targets_in s n S E (avail_in s n S E)).number (targets_in s n S E (avail_in s n S E)).number
-        (number_refusal (units_in s n S E).answer) ≡ number_of figure_tests
+        (answer_refusal (units_in s n S E).answer) ≡ number_of figure_tests
     unfolding number_of units_in
     both-number =
         ap₂ (λ (x y : ℕ). unless x x y) shares-number
@@ -196,7 +195,7 @@ module _ (s : List ℕ) where
 
   figures-number : Few → number_of atom_tests ≡ 0
       → let t = (targets_in s (ready_of s).slots (ready_of s).starts (ready_of s).ends (ready_of s).avail).number in
-      unless t t (number_refusal (units_in s (ready_of s).slots (ready_of s).starts (ready_of s).ends).answer) ≡ number_of figure_tests
+      unless t t (answer_refusal (units_in s (ready_of s).slots (ready_of s).starts (ready_of s).ends).answer) ≡ number_of figure_tests
   unfolding ready_of ready_in
   figures-number few z = both-number few _ _ _ (atoms-right few z)
 
@@ -246,9 +245,9 @@ module _ (s : List ℕ) where
   start_tests = test 12 (all (ready_of s).slots (available_at (ready_of s).avail (owners_of s))) ∷ []
 
   -- the numbers of the stages, as they are put together: those of slots, of targets and units, of owners and of the rota
-  pub prepare-number : Few → (a t u o r : ℕ) → a ≡ number_refusal (atoms_of s).answer
+  pub prepare-number : Few → (a t u o r : ℕ) → a ≡ answer_refusal (atoms_of s).answer
       → t ≡ (targets_in s (ready_of s).slots (ready_of s).starts (ready_of s).ends (ready_of s).avail).number
-      → u ≡ number_refusal (units_in s (ready_of s).slots (ready_of s).starts (ready_of s).ends).answer → o ≡ number_of owner_tests
+      → u ≡ answer_refusal (units_in s (ready_of s).slots (ready_of s).starts (ready_of s).ends).answer → o ≡ number_of owner_tests
       → r ≡ (started_of s).refusal.number
       → let figures = unless t t u in
       let rota = unless o o r in

@@ -1,4 +1,5 @@
 -- What a job promises, each by name, of every file and every lent listing. Assumes nothing.
+use Rattle.std.specs.Prelude.{Result, Ok, Err}
 use mathlib.Core.Path.{◌≡◌, refl, sym, ap, ap₂, ◌∙◌}
 use mathlib.Core.Logic.{◌↔◌}
 use mathlib.Core.Bool.{true, not, ◌&&◌, ◌||◌}
@@ -23,8 +24,6 @@ use Rattle.targets.specs.Remainder.{sumℤ}
 use Rattle.owners.specs.Derived.{known_by, uncovered}
 use Rattle.owners.proofs.Minutes.{known-below}
 use Rattle.owners.specs.Recount.{available_for}
-use Rattle.job.specs.declared.JobAnswer.{JobAnswer}
-use Rattle.job.specs.declared.JobAnswer.TheVariants as answer
 use Rattle.records.specs.Fields.{le}
 use Rattle.records.specs.Records.{bodies}
 use Rattle.records.specs.Puts.{put}
@@ -33,7 +32,7 @@ use Rattle.job.specs.Digits.{read_digits}
 use Rattle.job.specs.File.{JobFile}
 use Rattle.job.specs.Stages.{counted, block_start, instant_of, draws_of, base_total, ready_of, owners_of, plan_of, started_of, played_of}
 use Rattle.job.specs.Stages.{uneven_of, listed_of}
-use Rattle.job.specs.Outcome.{read_row, prepare_row, job_tests, test_at, Lowest, AllPass, refusal_at, Result, refused_as, listed_as, Ends, job_result}
+use Rattle.job.specs.Outcome.{read_row, prepare_row, job_tests, test_at, Lowest, AllPass, refusal_at, Outcome, refused_as, listed_as, Ends, job_result}
 use Rattle.job.proofs.Tests.{number-none, number-lowest}
 use Rattle.job.proofs.Answered.{numbered, rising, free, sound, demand-is, targets-right, frozen-there}
 use Rattle.job.proofs.Results.{answered-none, answered-some, job-refusal}
@@ -52,51 +51,51 @@ known-byte people w few k =
 
 -- ---- only one outcome fits
 
-pub one-job : (y : Result) (r q : JobAnswer) (x z : List ℕ) → Ends y r x → Ends y q z → (r ≡ q) × (x ≡ z)
+pub one-job : (y : Outcome) (r q : Result ℕ Refusal) (x z : List ℕ) → Ends y r x → Ends y q z → (r ≡ q) × (x ≡ z)
 one-job y r q x z A B = (A.said ∙ sym B.said, A.left ∙ sym B.left)
 
 -- ---- what is answered
 
 module _ (s x : List ℕ) where
   -- a refusal is that of the first test that fails
-  refused-is : (f : Refusal) → (job_result s x).answer ≡ answer.Refused f
+  refused-is : (f : Refusal) → (job_result s x).answer ≡ Err f
       → (refusal_of (job_tests s (length x)) ≡ f) × (0 < f.number)
   unfolding listed_as refused_as
   refused-is f e =
       by-test (eqb (number_of (job_tests s (length x))) 0) _
       (λ t.
-      let p = ap (λ (y : Result). y.answer) (answered-none s x (eqb-true _ 0 t)) in
+      let p = ap (λ (y : Outcome). y.answer) (answered-none s x (eqb-true _ 0 t)) in
       let z : ◌≡◌ {A = ℕ} 0 1 = cc in
       absurd (omega arith))
       (λ t.
-      let p = ap (λ (y : Result). y.answer) (answered-some s x (eqb-false _ 0 t)) in
+      let p = ap (λ (y : Outcome). y.answer) (answered-some s x (eqb-false _ 0 t)) in
       let q : refusal_of (job_tests s (length x)) ≡ f = cc in
       (q, pos_of_ne-zero (λ z. eqb-false _ 0 t (sym (said (job_tests s (length x)) (sym q)) ∙ z))))
 
-  refused-number : (f : Refusal) → (job_result s x).answer ≡ answer.Refused f
+  refused-number : (f : Refusal) → (job_result s x).answer ≡ Err f
       → (number_of (job_tests s (length x)) ≡ f.number) × (0 < f.number)
   refused-number f e = let h = refused-is f e in (sym (said (job_tests s (length x)) (sym h.0)), h.1)
 
   -- a listing comes only where none does
-  listed-none : (n : ℕ) → (job_result s x).answer ≡ answer.Length n → number_of (job_tests s (length x)) ≡ 0
+  listed-none : (n : ℕ) → (job_result s x).answer ≡ Ok n → number_of (job_tests s (length x)) ≡ 0
   unfolding refused_as
   listed-none n e =
       by-test (eqb (number_of (job_tests s (length x))) 0) _ (λ t. eqb-true _ 0 t)
       (λ f.
-      let p = ap (λ (y : Result). y.answer) (answered-some s x (eqb-false _ 0 f)) in
+      let p = ap (λ (y : Outcome). y.answer) (answered-some s x (eqb-false _ 0 f)) in
       let z : ◌≡◌ {A = ℕ} 0 1 = cc in
       absurd (omega arith))
 
   -- a refusal leaves the lent listing as it was
-  pub refused-keeps : (f : Refusal) (out : List ℕ) → Ends (job_result s x) (answer.Refused f) out → out ≡ x
+  pub refused-keeps : (f : Refusal) (out : List ℕ) → Ends (job_result s x) (Err f) out → out ≡ x
   unfolding refused_as
   refused-keeps f out E =
       let h = refused-number f (sym E.said) in
-      E.left ∙ ap (λ (y : Result). y.out) (answered-some s x (λ z. omega (arith, h.0, h.1)))
+      E.left ∙ ap (λ (y : Outcome). y.out) (answered-some s x (λ z. omega (arith, h.0, h.1)))
 
   -- the lowest number is given, 13 before all: a refusal is given exactly where its number is the lowest of the tests that fail, and it
   -- is the refusal of that number
-  pub lowest-number : (f : Refusal) → ((job_result s x).answer ≡ answer.Refused f)
+  pub lowest-number : (f : Refusal) → ((job_result s x).answer ≡ Err f)
       ↔ (Lowest (job_tests s (length x)) f.number × (f ≡ refusal_at f.number (uneven_of s)))
   unfolding refused_as
   lowest-number f =
@@ -108,24 +107,24 @@ module _ (s x : List ℕ) where
         λ L.
             let h = law.1 L.0 in
             let q : refusal_of ts ≡ f = job-refusal s x ∙ ap (λ (n : ℕ). refusal_at n (uneven_of s)) h.0 ∙ sym L.1 in
-            ap (λ (y : Result). y.answer) (answered-some s x (λ z. omega (arith, h.0, h.1))) ∙ ap answer.Refused q,
+            ap (λ (y : Outcome). y.answer) (answered-some s x (λ z. omega (arith, h.0, h.1))) ∙ ap Err q,
       )
 
   -- and a listing is given exactly where all pass, with its length
-  pub accepted-exactly : (n : ℕ) → ((job_result s x).answer ≡ answer.Length n)
+  pub accepted-exactly : (n : ℕ) → ((job_result s x).answer ≡ Ok n)
       ↔ (AllPass (job_tests s (length x)) × (n ≡ length (listing_of (listed_of s))))
   unfolding listed_as
   accepted-exactly n =
       let law = number-none (job_tests s (length x)) (numbered s (length x)) in (
         λ e.
             let h = listed-none n e in
-            let p = ap (λ (y : Result). y.answer) (answered-none s x h) in
+            let p = ap (λ (y : Outcome). y.answer) (answered-none s x h) in
             (law.0 h, cc),
-        λ A. ap (λ (y : Result). y.answer) (answered-none s x (law.1 A.0)) ∙ ap answer.Length (sym A.1),
+        λ A. ap (λ (y : Outcome). y.answer) (answered-none s x (law.1 A.0)) ∙ ap Ok (sym A.1),
       )
 
   -- 8 and 9 are never given
-  pub eight-nine-never : (f : Refusal) → (job_result s x).answer ≡ answer.Refused f → (f.number ≡ 8 → ⊥) × (f.number ≡ 9 → ⊥)
+  pub eight-nine-never : (f : Refusal) → (job_result s x).answer ≡ Err f → (f.number ≡ 8 → ⊥) × (f.number ≡ 9 → ⊥)
   unfolding job_tests read_row prepare_row all
   eight-nine-never f e =
       let L = ((lowest-number f).0 e).0 in
@@ -137,7 +136,7 @@ module _ (s x : List ℕ) where
       )
 
   -- 2 is given only where the lent listing is too short
-  pub two-short : (f : Refusal) → (job_result s x).answer ≡ answer.Refused f → f.number ≡ 2 → length x < listing_most
+  pub two-short : (f : Refusal) → (job_result s x).answer ≡ Err f → f.number ≡ 2 → length x < listing_most
   unfolding job_tests read_row prepare_row all
   two-short f e two =
       let L = ((lowest-number f).0 e).0 in
@@ -149,7 +148,7 @@ module _ (s x : List ℕ) where
 
   -- ---- an accepted job
 
-  module _ (n : ℕ) (e : (job_result s x).answer ≡ answer.Length n) where
+  module _ (n : ℕ) (e : (job_result s x).answer ≡ Ok n) where
     -- the listing, by the file alone
     pub listing-is : job_result s x ≡ listed_as (listing_of (listed_of s)) x
     listing-is = answered-none s x (listed-none n e)
@@ -161,7 +160,7 @@ module _ (s x : List ℕ) where
         let l = listing_of (listed_of s) in
         let z : length l ≡ n = sym ((accepted-exactly n).0 e).1 in
         let k : 0 + length l ≡ n = omega arith in
-        let o : (job_result s x).out ≡ l ++ drop (0 + length l) x = ap (λ (y : Result). y.out) listing-is in
+        let o : (job_result s x).out ≡ l ++ drop (0 + length l) x = ap (λ (y : Outcome). y.out) listing-is in
         (ap (take n) o ∙ take_at l _ n z, ap (drop n) o ∙ drop_at l _ n z ∙ ap (λ (j : ℕ). drop j x) k)
 
     pass : AllPass (job_tests s (length x))

@@ -1,4 +1,5 @@
 -- What a file whose layout and counts are right leaves known, and the parts that the stages return. Assumes nothing.
+use Rattle.std.specs.Prelude.{Ok, Err}
 use mathlib.Core.Path.{◌≡◌, refl, sym, ap, ap₂, ◌∙◌, subst}
 use mathlib.Core.Logic.{⊎_elim}
 use mathlib.Core.Bool.{Bool, true, cond}
@@ -13,8 +14,7 @@ use lib.ListN.{length, get_or, replicate}
 use Rattle.paper.specs.Limits.{number_of}
 use Rattle.paper.proofs.Rows.{passed}
 use Rattle.paper.proofs.Logic.{by-test, both, lt-or-ge, people-says, slot-count-says}
-use Rattle.paper.specs.Rows.{unless, refusal_of}
-use Rattle.slotset.specs.declared.Number.TheVariants as number
+use Rattle.paper.specs.Rows.{unless, refusal_of, answer_refusal}
 use Rattle.slots.specs.Ranges.{Ranges, ranges}
 use Rattle.slots.specs.Atomic as atomic
 use Rattle.slots.specs.Availability.{availability_of}
@@ -35,7 +35,6 @@ use Rattle.job.specs.declared.JobOwners.{JobOwners}
 use Rattle.job.specs.declared.Started.{Started}
 use Rattle.job.specs.File.{job_layout, job_sizes, file_most, job_counts, job_starts, rest_ok, file_ok}
 use Rattle.job.specs.Columns.{column, float_column}
-use Rattle.slotset.specs.Answers.{number_refusal}
 use Rattle.job.specs.Stages.{job_counts_ok, instant_of}
 use Rattle.job.specs.Stages.{counted, block_start, people_of, column_of, ranges_of, capacities_of, priors_of, settings_in, draw_columns}
 use Rattle.job.specs.Stages.{draws_of, value_of, base_of, atoms_of, avail_in, targets_in, units_in, frozen_in, Ready, ready, ready_in, ready_of}
@@ -94,7 +93,7 @@ module _ {s c b : List ℕ} (K : ReadOk s c b) where
 -- ---- the atomic slots are not too many
 
 pub atoms-few : (B : atomic.Base) (a : Atoms) → AtomsAs (atomic.atomise_of B) a → a.count ≤ 1024
-unfolding atomic.atomise_of atomic.atomise_row atomic.base_row Rattle.slotset.specs.Answers.number_as unless
+unfolding atomic.atomise_of atomic.atomise_row atomic.base_row Rattle.paper.specs.Rows.answer_as unless
 atoms-few B a w =
     by-test (eqb (number_of (atomic.atomise_row B)) 0) (a.count ≤ 1024)
     (λ t.
@@ -104,14 +103,14 @@ atoms-few B a w =
       arith,
       leb-true (length (atomic.starts_of_atoms B)) 1024 l,
       w.count
-          ∙ ap (λ (q : Bool). value_of (cond q (number.Is (length (atomic.starts_of_atoms B)))
-          (number.Refused (number_of (atomic.atomise_row B))))) t,
+          ∙ ap (λ (q : Bool). value_of (cond q (Ok (length (atomic.starts_of_atoms B)))
+          (Err (number_of (atomic.atomise_row B))))) t,
     ))
     (λ f.
     omega (
       arith,
-      w.count ∙ ap (λ (q : Bool). value_of (cond q (number.Is (length (atomic.starts_of_atoms B)))
-          (number.Refused (number_of (atomic.atomise_row B))))) f,
+      w.count ∙ ap (λ (q : Bool). value_of (cond q (Ok (length (atomic.starts_of_atoms B)))
+          (Err (number_of (atomic.atomise_row B))))) f,
     ))
 
 -- ---- the columns of a file that was read
@@ -269,7 +268,7 @@ module _ {s c b : List ℕ} (K : ReadOk s c b) where
         i ∙ ap (λ (k : ℕ). unless S.number S.number k) (h ∙ ap₂ (λ (x y : ℕ). unless x x y) f g)
         ∙ prepare-number s few S.number T.number U.number O.number W.number A.number
         (B.number ∙ ap (λ (R : Ready). (targets_in s R.slots R.starts R.ends R.avail).number) got-ready)
-        (units-are.number ∙ ap (λ (R : Ready). number_refusal (units_in s R.slots R.starts R.ends).answer) got-ready)
+        (units-are.number ∙ ap (λ (R : Ready). answer_refusal (units_in s R.slots R.starts R.ends).answer) got-ready)
         owners-number (F.number ∙ ap (λ (y : state.Outcome). y.refusal.number) started-is)
 
     pub prepared-are : {figures rota rest no : ℕ} → figures ≡ unless T.number T.number U.number → rota ≡ unless O.number

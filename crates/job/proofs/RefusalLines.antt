@@ -1,4 +1,5 @@
 -- What the line of a refusal comes to, refused or not. Assumes nothing.
+use Rattle.std.specs.Prelude.{Ok, Err}
 use mathlib.Core.Path.{◌≡◌, refl, sym, ap, ◌∙◌}
 use mathlib.Core.Bool.{Bool, cond}
 use mathlib.Core.List.{List}
@@ -13,9 +14,8 @@ use Rattle.paper.specs.Rows.{accepted, refusal_of, next}
 use Rattle.paper.proofs.Rows.{link, ends, checked, renamed, said, passed, worked, kept}
 use Rattle.owners.specs.Entries.{placeless}
 use Rattle.records.specs.Puts.{Wrote}
-use Rattle.job.specs.declared.JobAnswer.TheVariants as answer
 use Rattle.job.specs.Listing.{refusal_line}
-use Rattle.job.specs.Outcome.{Result, refused_as, listed_as, refusal_row, refusal_result, Ends}
+use Rattle.job.specs.Outcome.{Outcome, refused_as, listed_as, refusal_row, refusal_result, Ends}
 
 module _ (f : Refusal) (x : List ℕ) where
   -- 2 where the buffer is shorter than the line, nothing where it isn't
@@ -51,22 +51,22 @@ module _ (f : Refusal) (x : List ℕ) where
     unfolding refusal_row
     line-room z = leb-true _ _ (passed (refusal_row f (length x)) refl (sym (said (refusal_row f (length x)) e) ∙ z) 0)
 
-    pub line_refused : (g.number ≡ 0 → ⊥) → Ends (refusal_result f x) (answer.Refused g) x
+    pub line_refused : (g.number ≡ 0 → ⊥) → Ends (refusal_result f x) (Err g) x
     unfolding refused_as refusal_result
     line_refused n =
         let q = kept _ (refused_as (refusal_of (refusal_row f (length x))) x) (listed_as (refusal_line f) x)
         (λ z. n (ap (λ (h : Refusal). h.number) e ∙ z)) in
         record {
-          said = ap answer.Refused e ∙ sym (ap (λ (y : Result). y.answer) q);
-          left = sym (ap (λ (y : Result). y.out) q);
+          said = ap Err e ∙ sym (ap (λ (y : Outcome). y.answer) q);
+          left = sym (ap (λ (y : Outcome). y.out) q);
         }
 
-    pub line-written : (r : ℕ) (y : List ℕ) → g.number ≡ 0 → Wrote (refusal_line f) 0 x r y → Ends (refusal_result f x) (answer.Length r) y
+    pub line-written : (r : ℕ) (y : List ℕ) → g.number ≡ 0 → Wrote (refusal_line f) 0 x r y → Ends (refusal_result f x) (Ok r) y
     unfolding listed_as
     line-written r y z w =
         let q = line-stands (line-room z) in
         let k : r ≡ length (refusal_line f) = omega (arith, w.ends) in
         record {
-          said = ap answer.Length k ∙ sym (ap (λ (v : Result). v.answer) q);
-          left = w.text ∙ sym (ap (λ (v : Result). v.out) q);
+          said = ap Ok k ∙ sym (ap (λ (v : Outcome). v.answer) q);
+          left = w.text ∙ sym (ap (λ (v : Outcome). v.out) q);
         }

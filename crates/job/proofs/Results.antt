@@ -1,4 +1,5 @@
 -- What a job comes to, by what its stages returned. Assumes nothing.
+use Rattle.std.specs.Prelude.{Ok, Err}
 use mathlib.Core.Path.{◌≡◌, refl, sym, ap, ap₂, ◌∙◌, subst}
 use mathlib.Core.List.{List}
 use Prim.Native.Nat.{ℕ, ◌^◌, ◌<◌}
@@ -15,14 +16,13 @@ use Rattle.owners.specs.Derived.{Derived, derived}
 use Rattle.owners.specs.Entries as state
 use Rattle.owners.proofs.RecountRefusals.{first_stops}
 use Rattle.records.specs.Puts.{Wrote}
-use Rattle.job.specs.declared.JobAnswer.TheVariants as answer
 use Rattle.job.specs.declared.Prepared.{Prepared}
 use Rattle.job.specs.declared.Played.{Played}
 use Rattle.job.specs.File.{file_ok}
 use Rattle.job.specs.Listing.{Listed, listed, listing_of, listing_most}
 use Rattle.job.specs.Stages.{counted, people_of, draws_of, Ready, ready_of, owners_of, play_of, played_of, listed_of}
 use Rattle.job.specs.Stages.{uneven_of}
-use Rattle.job.specs.Outcome.{AllPass, read_row, prepare_row, job_tests, refusal_at, Result, refused_as, listed_as, job_result, Ends}
+use Rattle.job.specs.Outcome.{AllPass, read_row, prepare_row, job_tests, refusal_at, Outcome, refused_as, listed_as, job_result, Ends}
 use Rattle.job.specs.Inside.{PlayedAs, ready_by, PreparedAs}
 use Rattle.job.proofs.Tests.{Numbered, number-none, refusal-by, rest-number}
 use Rattle.job.proofs.Answered.{numbered, targets-right}
@@ -40,13 +40,13 @@ module _ (s x : List ℕ) where
   unfolding job_result
   answered-some n = kept _ (refused_as (refusal_of (job_tests s (length x))) x) _ (λ z. n (sym (said (job_tests s (length x)) refl) ∙ z))
 
-  refused-is : (f : Refusal) → f ≡ refusal_of (job_tests s (length x)) → (f.number ≡ 0 → ⊥) → Ends (job_result s x) (answer.Refused f) x
+  refused-is : (f : Refusal) → f ≡ refusal_of (job_tests s (length x)) → (f.number ≡ 0 → ⊥) → Ends (job_result s x) (Err f) x
   unfolding refused_as
   refused-is f e h =
       let t = answered-some (λ z. h (said (job_tests s (length x)) e ∙ z)) in
       record {
-        said = ap answer.Refused e ∙ sym (ap (λ (y : Result). y.answer) t);
-        left = sym (ap (λ (y : Result). y.out) t);
+        said = ap Err e ∙ sym (ap (λ (y : Outcome). y.answer) t);
+        left = sym (ap (λ (y : Outcome). y.out) t);
       }
 
   abbrev read_tests : List Test
@@ -57,7 +57,7 @@ module _ (s x : List ℕ) where
   read-numbered = (lit< tt, (lit< tt, (lit< tt, tt)))
 
   -- a refusal before the file is worked on, and one of what stands in it
-  pub read-refused : (f : Refusal) → f ≡ refusal_of read_tests → (f.number ≡ 0 → ⊥) → Ends (job_result s x) (answer.Refused f) x
+  pub read-refused : (f : Refusal) → f ≡ refusal_of read_tests → (f.number ≡ 0 → ⊥) → Ends (job_result s x) (Err f) x
   unfolding job_tests
   read-refused f e h = refused-is f (e ∙ sym (first_stops read_tests (prepare_row s) (λ z. h (said read_tests e ∙ z)))) h
 
@@ -70,7 +70,7 @@ module _ (s x : List ℕ) where
 
   pub prepare-refused : (f : Refusal) (n u : ℕ) → number_of read_tests ≡ 0 → n ≡ number_of (prepare_row s) → u ≡ uneven_of s → f ≡
       refusal_at n u
-      → (n ≡ 0 → ⊥) → Ends (job_result s x) (answer.Refused f) x
+      → (n ≡ 0 → ⊥) → Ends (job_result s x) (Err f) x
   unfolding job_tests
   prepare-refused f n u z e q p h =
       let k : n ≡ number_of (job_tests s (length x)) = e ∙ rest-number read_tests (prepare_row s) read-numbered z in
@@ -118,7 +118,7 @@ module _ (s x : List ℕ) where
 
       pub job-listed : (d n : ℕ) (out : List ℕ) → d ≡ counted s 6
           → Wrote (listing_of (listed p.slots p.starts p.ends y.owners p.people y.minutes p.targets d y.answers
-          (get_or y.totals 0 0))) 0 x n out → Ends (job_result s x) (answer.Length n) out
+          (get_or y.totals 0 0))) 0 x n out → Ends (job_result s x) (Ok n) out
       unfolding listed_as draws_of
       job-listed d n out q w =
           let l = ap (λ (c : ℕ). listing_of (listed p.slots p.starts p.ends y.owners p.people y.minutes p.targets c
@@ -127,6 +127,6 @@ module _ (s x : List ℕ) where
           let t = answered-none none in
           let m : n ≡ length (listing_of (listed_of s)) = omega (arith, v.ends) in
           record {
-            said = ap answer.Length m ∙ sym (ap (λ (r : Result). r.answer) t);
-            left = v.text ∙ sym (ap (λ (r : Result). r.out) t);
+            said = ap Ok m ∙ sym (ap (λ (r : Outcome). r.answer) t);
+            left = v.text ∙ sym (ap (λ (r : Outcome). r.out) t);
           }

@@ -1,4 +1,5 @@
 -- What a block's text and the line that ends a replay come to, refused or not. Assumes nothing.
+use Rattle.std.specs.Prelude.{Ok, Err}
 use mathlib.Core.Path.{◌≡◌, refl, sym, ap, ◌∙◌}
 use mathlib.Core.List.{List, [], ◌∷◌, ◌++◌}
 use Prim.Native.Nat.{ℕ, ◌+◌, ◌^◌, ◌≤◌, ◌<◌}
@@ -15,9 +16,8 @@ use Rattle.paper.proofs.Rows.{link, ends, checked, renamed, said, passed, worked
 use Rattle.paper.proofs.Logic.{people-says, slot-count-says}
 use Rattle.records.specs.Puts.{Wrote}
 use Rattle.job.specs.declared.Ending.{Ending}
-use Rattle.job.specs.declared.JobAnswer.TheVariants as answer
 use Rattle.job.specs.Listing.{digits, head_text, lines, slot_at, person_at, listing_most}
-use Rattle.job.specs.Outcome.{Result, refused_as, listed_as, Ends}
+use Rattle.job.specs.Outcome.{Outcome, refused_as, listed_as, Ends}
 use Rattle.job.specs.Shown.{block_text, block_row, block_result, differ_line, last_line, last_row, last_result}
 use Rattle.job.proofs.Texts.{head-length}
 use Rattle.job.proofs.Lengths.{head-le, long-le, slot-le, person-le, most-le}
@@ -25,26 +25,26 @@ use Rattle.job.proofs.Lengths.{head-le, long-le, slot-le, person-le, most-le}
 -- ---- a text by its row of tests
 
 module _ (ts : List Test) (l x : List ℕ) (g : Refusal) (e : g ≡ refusal_of ts) where
-  abbrev outcome : Result
+  abbrev outcome : Outcome
   outcome = unless (refusal_of ts).number (refused_as (refusal_of ts) x) (listed_as l x)
 
-  pub text-refused : (g.number ≡ 0 → ⊥) → Ends outcome (answer.Refused g) x
+  pub text-refused : (g.number ≡ 0 → ⊥) → Ends outcome (Err g) x
   unfolding refused_as
   text-refused n =
       let q = kept (refusal_of ts).number (refused_as (refusal_of ts) x) (listed_as l x) (λ z. n (ap (λ (h : Refusal). h.number) e ∙ z)) in
       record {
-        said = ap answer.Refused e ∙ sym (ap (λ (y : Result). y.answer) q);
-        left = sym (ap (λ (y : Result). y.out) q);
+        said = ap Err e ∙ sym (ap (λ (y : Outcome). y.answer) q);
+        left = sym (ap (λ (y : Outcome). y.out) q);
       }
 
-  pub text-written : (r : ℕ) (y : List ℕ) → g.number ≡ 0 → Wrote l 0 x r y → Ends outcome (answer.Length r) y
+  pub text-written : (r : ℕ) (y : List ℕ) → g.number ≡ 0 → Wrote l 0 x r y → Ends outcome (Ok r) y
   unfolding listed_as
   text-written r y z w =
       let q = worked (refusal_of ts).number (refused_as (refusal_of ts) x) (listed_as l x) (sym (ap (λ (h : Refusal). h.number) e) ∙ z) in
       let k : r ≡ length l = omega (arith, w.ends) in
       record {
-        said = ap answer.Length k ∙ sym (ap (λ (v : Result). v.answer) q);
-        left = w.text ∙ sym (ap (λ (v : Result). v.out) q);
+        said = ap Ok k ∙ sym (ap (λ (v : Outcome). v.answer) q);
+        left = w.text ∙ sym (ap (λ (v : Outcome). v.out) q);
       }
 
 -- ---- the last line
@@ -72,11 +72,11 @@ module _ (end : Ending) (x : List ℕ) where
     unfolding last_row
     last-room z = leb-true _ _ (passed (last_row end (length x)) refl (sym (said (last_row end (length x)) e) ∙ z) 0)
 
-    pub last-refused : (g.number ≡ 0 → ⊥) → Ends (last_result end x) (answer.Refused g) x
+    pub last-refused : (g.number ≡ 0 → ⊥) → Ends (last_result end x) (Err g) x
     unfolding last_result
     last-refused n = text-refused (last_row end (length x)) (last_line end) x g e n
 
-    pub last_written : (r : ℕ) (y : List ℕ) → g.number ≡ 0 → Wrote (last_line end) 0 x r y → Ends (last_result end x) (answer.Length r) y
+    pub last_written : (r : ℕ) (y : List ℕ) → g.number ≡ 0 → Wrote (last_line end) 0 x r y → Ends (last_result end x) (Ok r) y
     unfolding last_result
     last_written r y z w = text-written (last_row end (length x)) (last_line end) x g e r y z w
 
@@ -142,11 +142,11 @@ module _ (block people slots : ℕ) (starts ends' owners minutes : List ℕ) (ta
         }
 
     pub block_refused : (g.number ≡ 0 → ⊥)
-        → Ends (block_result block people slots starts ends' owners minutes targets x) (answer.Refused g) x
+        → Ends (block_result block people slots starts ends' owners minutes targets x) (Err g) x
     unfolding block_result
     block_refused n = text-refused row text x g e n
 
     pub block_written : (r : ℕ) (y : List ℕ) → g.number ≡ 0 → Wrote text 0 x r y
-        → Ends (block_result block people slots starts ends' owners minutes targets x) (answer.Length r) y
+        → Ends (block_result block people slots starts ends' owners minutes targets x) (Ok r) y
     unfolding block_result
     block_written r y z w = text-written row text x g e r y z w

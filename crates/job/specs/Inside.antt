@@ -1,7 +1,7 @@
 -- What only job's own functions cite: what each stage returns, and what it may take for granted. Assumes nothing.
 use Rattle.std.specs.Prelude.{◌≡◌, Bool, true, List, [], ◌∷◌, ℕ, ◌≤◌, length, get_or}
 use Rattle.paper.specs.Limits.{Test, test, number_of}
-use Rattle.slotset.specs.Answers.{number_refusal}
+use Rattle.paper.specs.Rows.{answer_refusal}
 use Rattle.slots.specs.Atomic as atomic
 use Rattle.units.specs.Answers.{Written}
 use Rattle.targets.specs.Outcome as targets
@@ -29,7 +29,7 @@ pub record ReadOk (s c b : List ℕ) : Type 0 where
 
 -- the atomic slots, with availability, the units, the targets, as their crates give them
 pub record AtomsAs (x : atomic.Atoms) (r : Atoms) : Type 0 where
-  pub number : r.number ≡ number_refusal x.answer
+  pub number : r.number ≡ answer_refusal x.answer
   pub count : r.count ≡ value_of x.answer
   pub starts : r.starts ≡ x.starts
   pub ends : r.ends ≡ x.ends
@@ -37,7 +37,7 @@ pub record AtomsAs (x : atomic.Atoms) (r : Atoms) : Type 0 where
   pub ends-room : length r.ends ≡ 1024
 
 pub record SlotsAs (s : List ℕ) (r : JobSlots) : Type 0 where
-  pub number : r.number ≡ number_refusal (atoms_of s).answer
+  pub number : r.number ≡ answer_refusal (atoms_of s).answer
   pub count : r.count ≡ value_of (atoms_of s).answer
   pub starts : r.starts ≡ (atoms_of s).starts
   pub ends : r.ends ≡ (atoms_of s).ends
@@ -48,7 +48,7 @@ pub record SlotsAs (s : List ℕ) (r : JobSlots) : Type 0 where
   pub avail-room : length r.avail ≡ 512
 
 pub record UnitsAs (w : Written) (r : JobUnits) : Type 0 where
-  pub number : r.number ≡ number_refusal w.answer
+  pub number : r.number ≡ answer_refusal w.answer
   pub count : r.count ≡ value_of w.answer
   pub begins : r.begins ≡ w.buffer
   pub room : length r.begins ≡ 1024

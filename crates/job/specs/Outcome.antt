@@ -1,5 +1,5 @@
 -- What a job comes to, said of its file alone: the row of its tests, and what is answered and left. Assumes nothing.
-use Rattle.std.specs.Prelude.{◌≡◌, Bool, true, false, cond, List, [], ◌∷◌, ◌++◌, ℕ, ◌≤◌, ◌<◌, eqb, leb, length, get_or}
+use Rattle.std.specs.Prelude.{◌≡◌, Bool, true, false, cond, List, [], ◌∷◌, ◌++◌, ℕ, ◌≤◌, ◌<◌, eqb, leb, length, get_or, Result, Ok, Err}
 use Rattle.paper.specs.Limits.{Test, test_in, test, slots_most}
 use Rattle.paper.specs.declared.Refusal.{Refusal}
 use Rattle.paper.specs.Count.{all}
@@ -11,8 +11,6 @@ use Rattle.units.specs.Settings.{settings_ok}
 use Rattle.targets.specs.Figures.{all_figures_ok}
 use Rattle.owners.specs.Recount.{available_at}
 use Rattle.records.specs.Puts.{put}
-use Rattle.job.specs.declared.JobAnswer.{JobAnswer}
-use Rattle.job.specs.declared.JobAnswer.TheVariants as answer
 use Rattle.job.specs.File.{file_ok}
 use Rattle.job.specs.Listing.{refusal_line, listing_of, listing_most}
 use Rattle.job.specs.Stages.{counted, block_start, people_of, job_counts_ok, capacities_of, priors_of, settings_in, base_of, ready_of, all_even}
@@ -67,26 +65,26 @@ refusal_at n uneven =
     (record { number = n; part = 0; place = 0; second = 0 })
 
 -- an answer by its cases: the refusal, of number 0 where there is none; and the length, or `was` where refused
-abbrev pub job_refusal : JobAnswer → Refusal
-job_refusal (answer.Length l) = accepted
-job_refusal (answer.Refused f) = f
+abbrev pub job_refusal : Result ℕ Refusal → Refusal
+job_refusal (Ok l) = accepted
+job_refusal (Err f) = f
 
-abbrev pub job_length : ℕ → JobAnswer → ℕ
-job_length was (answer.Length l) = l
-job_length was (answer.Refused f) = was
+abbrev pub job_length : ℕ → Result ℕ Refusal → ℕ
+job_length was (Ok l) = l
+job_length was (Err f) = was
 
-pub record Result : Type 0 where
-  pub answer : JobAnswer
+pub record Outcome : Type 0 where
+  pub answer : Result ℕ Refusal
   pub out : List ℕ
 
 -- a refusal leaves the listing as it was; else it stands at the front
-unfoldable pub refused_as : Refusal → List ℕ → Result
-refused_as f x = record { answer = answer.Refused f; out = x }
+unfoldable pub refused_as : Refusal → List ℕ → Outcome
+refused_as f x = record { answer = Err f; out = x }
 
-unfoldable pub listed_as : List ℕ → List ℕ → Result
-listed_as l x = record { answer = answer.Length (length l); out = put l 0 x }
+unfoldable pub listed_as : List ℕ → List ℕ → Outcome
+listed_as l x = record { answer = Ok (length l); out = put l 0 x }
 
-unfoldable pub job_result : List ℕ → List ℕ → Result
+unfoldable pub job_result : List ℕ → List ℕ → Outcome
 job_result s x =
     let f = refusal_of (job_tests s (length x)) in
     unless f.number (refused_as f x) (listed_as (listing_of (listed_of s)) x)
@@ -95,10 +93,10 @@ job_result s x =
 unfoldable pub refusal_row : Refusal → ℕ → List Test
 refusal_row f room = test 2 (leb (length (refusal_line f)) room) ∷ []
 
-unfoldable pub refusal_result : Refusal → List ℕ → Result
+unfoldable pub refusal_result : Refusal → List ℕ → Outcome
 refusal_result f x =
     let g = refusal_of (refusal_row f (length x)) in unless g.number (refused_as g x) (listed_as (refusal_line f) x)
 
-pub record Ends (y : Result) (r : JobAnswer) (out : List ℕ) : Type 0 where
+pub record Ends (y : Outcome) (r : Result ℕ Refusal) (out : List ℕ) : Type 0 where
   pub said : r ≡ y.answer
   pub left : out ≡ y.out

@@ -5,7 +5,7 @@ use Rattle.paper.specs.Rows.{unless, refusal_of}
 use Rattle.job.specs.declared.Ending.{Ending}
 use Rattle.job.specs.declared.Ending.TheVariants as ending
 use Rattle.job.specs.Listing.{digits, head_text, lines, slot_at, person_at, refusal_line, listing_most}
-use Rattle.job.specs.Outcome.{Result, refused_as, listed_as}
+use Rattle.job.specs.Outcome.{Outcome, refused_as, listed_as}
 
 -- B and the block's number, then the lines of slots and people as a listing has them
 unfoldable pub block_text : ℕ → ℕ → ℕ → List ℕ → List ℕ → List ℕ → List ℕ → List ℤ → List ℕ
@@ -30,7 +30,7 @@ block_row people slots starts ends owners minutes targets room =
     ∷ test 2 (leb slots (length owners)) ∷ test 2 (leb people (length minutes)) ∷ test 2 (leb people (length targets))
     ∷ test 2 (leb listing_most room) ∷ []
 
-unfoldable pub block_result : ℕ → ℕ → ℕ → List ℕ → List ℕ → List ℕ → List ℕ → List ℤ → List ℕ → Result
+unfoldable pub block_result : ℕ → ℕ → ℕ → List ℕ → List ℕ → List ℕ → List ℕ → List ℤ → List ℕ → Outcome
 block_result block people slots starts ends owners minutes targets x =
     let f = refusal_of (block_row people slots starts ends owners minutes targets (length x)) in
     unless f.number (refused_as f x) (listed_as (block_text block people slots starts ends owners minutes targets) x)
@@ -39,6 +39,6 @@ block_result block people slots starts ends owners minutes targets x =
 unfoldable pub last_row : Ending → ℕ → List Test
 last_row end room = test 2 (leb (length (last_line end)) room) ∷ []
 
-unfoldable pub last_result : Ending → List ℕ → Result
+unfoldable pub last_result : Ending → List ℕ → Outcome
 last_result end x =
     let f = refusal_of (last_row end (length x)) in unless f.number (refused_as f x) (listed_as (last_line end) x)

@@ -1,9 +1,7 @@
 -- What stands in a job's file, part by part, each by the outcome of the crate that works it out. Assumes nothing.
-use Rattle.std.specs.Prelude.{Bool, ◌&&◌, cond, List, ℕ, zero, suc, ◌+◌, ◌-◌, ◌*◌, leb, ltb, eqb, Float, ℤ, pos, get_or, set, replicate}
+use Rattle.std.specs.Prelude.{Bool, ◌&&◌, cond, List, ℕ, zero, suc, ◌+◌, ◌-◌, ◌*◌, leb, ltb, eqb, Float, ℤ, pos, get_or, set, replicate, Result, Ok, Err}
 use Rattle.paper.specs.Limits.{people_ok, slot_count_ok, ranges_most, draws_most, nobody}
 use Rattle.paper.specs.Count.{all, over, sum}
-use Rattle.slotset.specs.declared.Number.{Number}
-use Rattle.slotset.specs.declared.Number.TheVariants as number
 use Rattle.slots.specs.Ranges.{Ranges, ranges}
 use Rattle.slots.specs.Atomic as atomic
 use Rattle.slots.specs.Availability.{availability_of}
@@ -86,9 +84,9 @@ base_total s =
 -- ---- slots, units and targets
 
 -- the number that was asked for, 0 where refused
-abbrev pub value_of : Number → ℕ
-value_of (number.Is n) = n
-value_of (number.Refused k) = 0
+abbrev pub value_of : Result ℕ ℕ → ℕ
+value_of (Ok n) = n
+value_of (Err k) = 0
 
 -- the base slots, the people and their ranges; the atomic slots (3, 4, 5)
 unfoldable pub base_of : List ℕ → atomic.Base

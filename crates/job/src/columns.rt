@@ -25,10 +25,8 @@ pub(crate) fn column16(s: &[u8], at: usize, stride: usize, n: usize) -> [u16; 10
     ensures { result ≡ column 2 s.now at stride n }
 {
     let mut out = [0u16; 1024];
-    let mut k: usize = 0;
-    while k < n {
+    for k in 0..n {
         out[k] = field(s, at + k * stride, 2) as u16;
-        k += 1;
     }
     out
 }
@@ -39,10 +37,8 @@ pub(crate) fn column32(s: &[u8], at: usize, stride: usize, n: usize) -> [u32; 10
     ensures { result ≡ column 4 s.now at stride n }
 {
     let mut out = [0u32; 1024];
-    let mut k: usize = 0;
-    while k < n {
+    for k in 0..n {
         out[k] = field(s, at + k * stride, 4) as u32;
-        k += 1;
     }
     out
 }
@@ -53,10 +49,8 @@ pub(crate) fn column_f64(s: &[u8], at: usize, stride: usize, n: usize) -> [f64; 
     ensures { result ≡ float_column s.now at stride n }
 {
     let mut out = [0.0f64; 1024];
-    let mut k: usize = 0;
-    while k < n {
+    for k in 0..n {
         out[k] = float_of(field(s, at + k * stride, 8));
-        k += 1;
     }
     out
 }

@@ -13,11 +13,8 @@ fn slots_rise(s: &[u8], at: usize, n: usize) -> bool
     requires { at + n * 8 ≤ length s.now }
     ensures { result ≡ rising s.now at n }
 {
-    let mut k: usize = 0;
-    while k + 1 < n {
-        if owner_slot(s, at, k) < owner_slot(s, at, k + 1) {
-            k += 1;
-        } else {
+    for k in 0..n.saturating_sub(1) {
+        if owner_slot(s, at, k) >= owner_slot(s, at, k + 1) {
             return false;
         }
     }

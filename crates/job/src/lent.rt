@@ -12,64 +12,13 @@ use paper::Refusal;
 // The words of a set for each of as many people as there may be.
 const WORDS_MOST: usize = 512;
 
-// A column of bytes from the front of a lent one.
-fn lay8(from: &[u8], to: &mut [u8])
+// A column from the front of a lent one.
+#[tactic(auto, unfolding(crate::specs::Begun::laid))]
+fn lay<T: Copy>(from: &[T], to: &mut [T])
     requires { length from.now ≤ length to.old }
     ensures { to.new ≡ laid from.now to.old }
 {
-    let mut k: usize = 0;
-    while k < from.len() {
-        to[k] = from[k];
-        k += 1;
-    }
-}
-
-// The same of numbers of two bytes.
-fn lay16(from: &[u16], to: &mut [u16])
-    requires { length from.now ≤ length to.old }
-    ensures { to.new ≡ laid from.now to.old }
-{
-    let mut k: usize = 0;
-    while k < from.len() {
-        to[k] = from[k];
-        k += 1;
-    }
-}
-
-// The same of numbers of four bytes.
-fn lay32(from: &[u32], to: &mut [u32])
-    requires { length from.now ≤ length to.old }
-    ensures { to.new ≡ laid from.now to.old }
-{
-    let mut k: usize = 0;
-    while k < from.len() {
-        to[k] = from[k];
-        k += 1;
-    }
-}
-
-// The same of words.
-fn lay64(from: &[u64], to: &mut [u64])
-    requires { length from.now ≤ length to.old }
-    ensures { to.new ≡ laid from.now to.old }
-{
-    let mut k: usize = 0;
-    while k < from.len() {
-        to[k] = from[k];
-        k += 1;
-    }
-}
-
-// The same of targets.
-fn lay_targets(from: &[i64], to: &mut [i64])
-    requires { length from.now ≤ length to.old }
-    ensures { to.new ≡ laid from.now to.old }
-{
-    let mut k: usize = 0;
-    while k < from.len() {
-        to[k] = from[k];
-        k += 1;
-    }
+    to[..from.len()].copy_from_slice(from);
 }
 
 // Whether the columns that a play goes by have room.
@@ -105,7 +54,7 @@ fn rota_room(owners: &[u8], sets: &[u64], minutes: &[u64], totals: &[u64]) -> bo
 
 // What a play goes by.
 fn lay_ready(
-    b: Begun,
+    b: &Begun,
     starts: &mut [u32],
     ends: &mut [u32],
     avail: &mut [u64],
@@ -118,42 +67,32 @@ fn lay_ready(
 )
     requires { ready_room (ready 0 0 starts.old ends.old avail.old 0 begins.old frozen.old targets.old) ≡ true }
     ensures { ready people.new slots.new starts.new ends.new avail.new
-        units.new begins.new frozen.new targets.new ≡ ready_laid (ready_from b)
+        units.new begins.new frozen.new targets.new ≡ ready_laid (ready_from b.now)
         (ready people.old slots.old starts.old ends.old avail.old
         units.old begins.old frozen.old targets.old) }
 {
-    let s = b.starts;
-    lay32(&s, starts);
-    let e = b.ends;
-    lay32(&e, ends);
-    let a = b.avail;
-    lay64(&a, avail);
-    let u = b.begins;
-    lay16(&u, begins);
-    let f = b.frozen;
-    lay64(&f, frozen);
-    let t = b.targets;
-    lay_targets(&t, targets);
+    lay(&b.starts, starts);
+    lay(&b.ends, ends);
+    lay(&b.avail, avail);
+    lay(&b.begins, begins);
+    lay(&b.frozen, frozen);
+    lay(&b.targets, targets);
     *people = b.people as u64;
     *slots = b.slots as u64;
     *units = b.units as u64;
 }
 
 // The rota before the first block.
-fn lay_rota(b: Begun, owners: &mut [u8], sets: &mut [u64], minutes: &mut [u64], totals: &mut [u64])
+fn lay_rota(b: &Begun, owners: &mut [u8], sets: &mut [u64], minutes: &mut [u64], totals: &mut [u64])
     requires { rota_room owners.old (derived sets.old minutes.old totals.old) ≡ true }
-    ensures owners_after { owners.new ≡ laid b.owners owners.old }
-    ensures totals_after { derived sets.new minutes.new totals.new ≡ derived_laid (derived_from b)
+    ensures owners_after { owners.new ≡ laid b.now.owners owners.old }
+    ensures totals_after { derived sets.new minutes.new totals.new ≡ derived_laid (derived_from b.now)
         (derived sets.old minutes.old totals.old) }
 {
-    let o = b.owners;
-    lay8(&o, owners);
-    let s = b.sets;
-    lay64(&s, sets);
-    let m = b.minutes;
-    lay64(&m, minutes);
-    let t = b.totals;
-    lay64(&t, totals);
+    lay(&b.owners, owners);
+    lay(&b.sets, sets);
+    lay(&b.minutes, minutes);
+    lay(&b.totals, totals);
 }
 
 // The job of a recording into lent columns, each from its front, and its three counts. Refusals as `begin`, 2 where a column is shorter
@@ -187,9 +126,9 @@ pub fn begin_recording(
     let refusal = b.refusal;
     if refusal.number == 0 {
         lay_ready(
-            b, starts, ends, avail, begins, frozen, targets, people, slots, units,
+            &b, starts, ends, avail, begins, frozen, targets, people, slots, units,
         );
-        lay_rota(b, owners, sets, minutes, totals);
+        lay_rota(&b, owners, sets, minutes, totals);
         return refusal;
     }
     refusal

@@ -103,13 +103,6 @@ pub struct Played {
     pub answers: [u8; 1024],
 }
 
-// What a job comes to: the length of its listing, or the refusal.
-#[derive(Clone, Copy)]
-pub enum JobAnswer {
-    Length(usize),
-    Refused(Refusal),
-}
-
 // The job of a recording: the refusal; or, where its number is 0, what a play goes by and the rota before the first block.
 #[derive(Clone, Copy)]
 pub struct Begun {

@@ -1,5 +1,5 @@
 // The listing, written into a lent buffer from its front. Each function takes the place to write at and returns the next.
-ghost use Rattle.std.specs.Prelude.{◌≡◌, [], ◌∷◌, ◌++◌, ℕ, ◌+◌, ◌≤◌, ◌<◌, ◌^◌, pos, nat_abs, length, get_or};
+ghost use Rattle.std.specs.Prelude.{◌≡◌, [], ◌∷◌, ◌++◌, ℕ, ◌+◌, ◌≤◌, ◌<◌, ◌^◌, pos, length, get_or};
 ghost use Rattle.std.specs.Int.Signed.{mag};
 ghost use Rattle.job.specs.Listing.{digits, signed, owner_text, answer_letter, head_text, slot_line, person_line, draw_line};
 ghost use Rattle.job.specs.Listing.{lines, slot_at, person_at, draw_at};
@@ -7,7 +7,6 @@ ghost use Rattle.records.specs.Puts.{Wrote};
 ghost use Rattle.job.specs.Listing.{listed, listing_of, listing_most, place_text, part_text, refusal_line};
 ghost use Rattle.job.specs.Outcome.{Ends, refusal_result};
 
-use crate::JobAnswer;
 use paper::Refusal;
 
 // One byte.
@@ -62,22 +61,12 @@ fn put_owner(out: &mut [u8], at: usize, owner: u8) -> usize
     put_number_then(out, at, owner as u64, b'\n')
 }
 
-// How far a number is from 0.
-fn size_of(t: i64) -> u64
-    ensures { result ≡ nat_abs t }
-{
-    if t < 0 {
-        return (-(t + 1)) as u64 + 1;
-    }
-    t as u64
-}
-
 // A number with its sign, and a newline.
 fn put_signed(out: &mut [u8], at: usize, t: i64) -> usize
     requires { at + length (signed t ++ (10 ∷ [])) ≤ length out.old }
     ensures { Wrote (signed t ++ (10 ∷ [])) at out.old result out.new }
 {
-    let size = size_of(t);
+    let size = t.unsigned_abs();
     if t < 0 {
         let next = put_byte(out, at, b'-');
         return put_number_then(out, next, size, b'\n');
@@ -145,10 +134,8 @@ pub(crate) fn put_slots(
         out.new }
 {
     let mut next = at;
-    let mut k: usize = 0;
-    while k < n {
+    for k in 0..n {
         next = put_slot(out, next, k, starts[k], ends[k], owners[k]);
-        k += 1;
     }
     next
 }
@@ -166,11 +153,9 @@ pub(crate) fn put_people(
     ensures { Wrote (lines (person_at minutes.now targets.now) n) at out.old result out.new }
 {
     let mut next = at;
-    let mut k: usize = 0;
-    while k < n {
+    for k in 0..n {
         let target = targets[k];
         next = put_person(out, next, k, minutes[k], target);
-        k += 1;
     }
     next
 }
@@ -182,10 +167,8 @@ fn put_draws(out: &mut [u8], at: usize, n: usize, answers: &[u8]) -> usize
     ensures { Wrote (lines (draw_at answers.now) n) at out.old result out.new }
 {
     let mut next = at;
-    let mut k: usize = 0;
-    while k < n {
+    for k in 0..n {
         next = put_draw(out, next, k, answers[k]);
-        k += 1;
     }
     next
 }
@@ -249,6 +232,7 @@ pub(crate) fn digit_count(n: u64) -> usize
 {
     let mut count: usize = 1;
     let mut rest = n;
+    // a while: each turn takes a tenth, so no range is walked
     while 10 <= rest {
         rest = rest / 10;
         count += 1;
@@ -313,16 +297,15 @@ pub(crate) fn put_refusal(out: &mut [u8], number: u8, part: u8, place: u64, seco
 }
 
 // The line of a refusal at the front of line, and its length. Refusal 2: line is shorter than that.
-pub fn refusal_line(refusal: Refusal, line: &mut [u8]) -> JobAnswer
+pub fn refusal_line(refusal: Refusal, line: &mut [u8]) -> Result<usize, Refusal>
     ensures { Ends (refusal_result refusal line.old) result line.new }
 {
     let place = refusal.place as u64;
     let second = refusal.second as u64;
     let size = refusal_size(refusal.number, refusal.part, place, second);
     let short = paper::check(paper::accepted(), size <= line.len(), 2);
-    if short.number == 0 {
-        let length = put_refusal(line, refusal.number, refusal.part, place, second);
-        return JobAnswer::Length(length);
+    if short.number != 0 {
+        return Err(short);
     }
-    JobAnswer::Refused(short)
+    Ok(put_refusal(line, refusal.number, refusal.part, place, second))
 }

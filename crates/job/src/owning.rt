@@ -42,15 +42,11 @@ fn placed_by(s: &[u8], at: usize, n: usize, slots: usize) -> [u16; 1024]
     ensures { result ≡ placed s.now at slots n }
 {
     let mut out = [255u16; 1024];
-    let mut k: usize = 0;
-    while k < n {
+    for k in 0..n {
         let slot = owner_slot(s, at, k);
         let owner = owner_value(s, at, k);
         if slot < slots {
             out[slot] = owner;
-            k += 1;
-        } else {
-            k += 1;
         }
     }
     out
@@ -63,11 +59,8 @@ fn unit_even(slots: usize, units: usize, begins: &[u16], owners: &[u16], u: usiz
     let a = units::start_of(begins, u);
     let e = units::unit_end(slots, units, begins, u);
     let owner = entry16(owners, a);
-    let mut k = a;
-    while k < e {
-        if entry16(owners, k) == owner {
-            k += 1;
-        } else {
+    for k in a..e {
+        if entry16(owners, k) != owner {
             return false;
         }
     }
@@ -78,11 +71,8 @@ fn unit_even(slots: usize, units: usize, begins: &[u16], owners: &[u16], u: usiz
 fn first_uneven(slots: usize, units: usize, begins: &[u16], owners: &[u16]) -> usize
     ensures { result ≡ uneven_in slots units begins.now owners.now }
 {
-    let mut u: usize = 0;
-    while u < units {
-        if unit_even(slots, units, begins, owners, u) {
-            u += 1;
-        } else {
+    for u in 0..units {
+        if !unit_even(slots, units, begins, owners, u) {
             return u;
         }
     }
@@ -110,11 +100,8 @@ fn all_known(s: &[u8], at: usize, n: usize, slots: usize, people: usize) -> bool
     requires { at + n * 8 ≤ length s.now }
     ensures { result ≡ all_known s.now at n slots people }
 {
-    let mut k: usize = 0;
-    while k < n {
-        if record_known(s, at, slots, people, k) {
-            k += 1;
-        } else {
+    for k in 0..n {
+        if !record_known(s, at, slots, people, k) {
             return false;
         }
     }
@@ -136,15 +123,12 @@ fn narrow(owners: &[u16]) -> [u8; 1024]
     ensures { result ≡ narrowed owners.now }
 {
     let mut out = [0u8; 1024];
-    let mut k: usize = 0;
-    while k < paper::SLOTS_MOST {
+    for k in 0..paper::SLOTS_MOST {
         let owner = entry16(owners, k);
         if owner < 256 {
             out[k] = owner as u8;
-            k += 1;
         } else {
             out[k] = paper::NOBODY;
-            k += 1;
         }
     }
     out

@@ -11,7 +11,6 @@ ghost use Rattle.job.specs.Inside.{AtomsAs, UnitsAs, TargetsAs};
 
 use crate::fields::field;
 use crate::{Atoms, JobTargets, JobUnits};
-use slotset::Number;
 use units::Settings;
 
 // The settings.
@@ -51,13 +50,13 @@ pub(crate) fn atoms_of(
         people, slots, count, starts, ends, persons, opens, shuts, &mut froms, &mut tos,
     );
     match answer {
-        Number::Is(n) => Atoms {
+        Ok(n) => Atoms {
             number: 0,
             count: n,
             starts: froms,
             ends: tos,
         },
-        Number::Refused(k) => Atoms {
+        Err(k) => Atoms {
             number: k,
             count: 0,
             starts: froms,
@@ -80,7 +79,7 @@ pub(crate) fn frozen_in(
     if freezes == 0 {
         return flags;
     }
-    slots::freeze_before(slots, starts, ends, &mut flags, instant);
+    let _ = slots::freeze_before(slots, starts, ends, &mut flags, instant);
     flags
 }
 
@@ -91,12 +90,12 @@ pub(crate) fn units_of(slots: usize, settings: Settings, starts: &[u32], ends: &
     let mut begins = [0u16; 1024];
     let answer = units::unit_starts(slots, settings, starts, ends, &mut begins);
     match answer {
-        Number::Is(n) => JobUnits {
+        Ok(n) => JobUnits {
             number: 0,
             count: n,
             begins,
         },
-        Number::Refused(k) => JobUnits {
+        Err(k) => JobUnits {
             number: k,
             count: 0,
             begins,

@@ -4,7 +4,6 @@ ghost use Rattle.paper.specs.Rows.{refusal_of};
 ghost use Rattle.job.specs.Stages.{job_counts_ok};
 ghost use Rattle.job.specs.Outcome.{Ends, read_row, refusal_at, job_result};
 
-use crate::JobAnswer;
 use crate::file::read_file;
 use crate::play::{list, play};
 use crate::prepare::prepare;
@@ -67,7 +66,7 @@ pub(crate) fn refusal_at(number: u8, uneven: usize) -> Refusal
 }
 
 // A job: the listing of its file at the front of out and its length, or the refusal with out as it was.
-pub fn run_job(file: &[u8], out: &mut [u8]) -> JobAnswer
+pub fn run_job(file: &[u8], out: &mut [u8]) -> Result<usize, Refusal>
     ensures { Ends (job_result file.now out.old) result out.new }
 {
     let w = read_file(file);
@@ -75,15 +74,14 @@ pub fn run_job(file: &[u8], out: &mut [u8]) -> JobAnswer
     let blocks = w.starts;
     let room = LISTING_MOST <= out.len();
     let refusal = read_refusal(w.ok, counts[1], counts[2], counts[3], counts[6], room);
-    if refusal.number == 0 {
-        let p = prepare(file, counts, blocks);
-        let number = p.number;
-        if number == 0 {
-            let y = play(file, counts, blocks, p);
-            let length = list(out, counts[6], p, y);
-            return JobAnswer::Length(length);
-        }
-        return JobAnswer::Refused(refusal_at(number, p.uneven));
+    if refusal.number != 0 {
+        return Err(refusal);
     }
-    JobAnswer::Refused(refusal)
+    let p = prepare(file, counts, blocks);
+    let number = p.number;
+    if number != 0 {
+        return Err(refusal_at(number, p.uneven));
+    }
+    let y = play(file, counts, blocks, p);
+    Ok(list(out, counts[6], p, y))
 }

@@ -7,12 +7,12 @@ ghost use Rattle.job.specs.Listing.{refusal_line};
 ghost use Rattle.job.specs.Outcome.{Ends};
 ghost use Rattle.job.specs.Shown.{block_text, block_row, block_result, differ_line, last_line, last_result};
 
+use crate::Ending;
 use crate::listing::{
     digit_count, put_byte, put_head, put_number_then, put_people, put_refusal, put_slots,
     refusal_size,
 };
 use crate::run::LISTING_MOST;
-use crate::{Ending, JobAnswer};
 use paper::Refusal;
 
 // What stands against a block's text: 1, then 2.
@@ -67,10 +67,8 @@ fn see_targets(people: usize, targets: &[i64])
     requires { people ≤ length targets.now }
     ensures { (p : ℕ) → p < people → mag (get_or targets.now p (pos 0)) < 2 ^ 63 }
 {
-    let mut p: usize = 0;
-    while p < people {
+    for p in 0..people {
         let _target = targets[p];
-        p += 1;
     }
 }
 
@@ -85,7 +83,7 @@ pub fn put_block(
     minutes: &[u64],
     targets: &[i64],
     out: &mut [u8],
-) -> JobAnswer
+) -> Result<usize, Refusal>
     ensures { Ends (block_result block people slots starts.now ends.now owners.now
         minutes.now targets.now out.old) result out.new }
 {
@@ -99,14 +97,13 @@ pub fn put_block(
         targets,
         out.len(),
     );
-    if f.number == 0 {
-        see_targets(people, targets);
-        let length = put_block_lines(
-            block, people, slots, starts, ends, owners, minutes, targets, out,
-        );
-        return JobAnswer::Length(length);
+    if f.number != 0 {
+        return Err(f);
     }
-    JobAnswer::Refused(f)
+    see_targets(people, targets);
+    Ok(put_block_lines(
+        block, people, slots, starts, ends, owners, minutes, targets, out,
+    ))
 }
 
 // The line of a difference: its block and its place there.
@@ -162,14 +159,13 @@ fn put_last(end: Ending, out: &mut [u8]) -> usize
 }
 
 // The last line at the front of line, and its length. Refusal 2: line is shorter than that.
-pub fn last_line(end: Ending, line: &mut [u8]) -> JobAnswer
+pub fn last_line(end: Ending, line: &mut [u8]) -> Result<usize, Refusal>
     ensures { Ends (last_result end line.old) result line.new }
 {
     let size = last_size(end);
     let short = paper::check(paper::accepted(), size <= line.len(), 2);
-    if short.number == 0 {
-        let length = put_last(end, line);
-        return JobAnswer::Length(length);
+    if short.number != 0 {
+        return Err(short);
     }
-    JobAnswer::Refused(short)
+    Ok(put_last(end, line))
 }

@@ -27,13 +27,6 @@ left_is : (people : ℕ) (avail o : List ℕ) (k w r : ℕ) → w ≡ get_or o k
 unfolding left_to may_keep known_at available_at
 left_is people avail o k w r e q = q ∙ ap (λ (v : ℕ). cond (known_by people v && available_for avail v k) v nobody) e
 
--- the same by the two tests
-pub left-yes : (b : Bool) (w : ℕ) → b ≡ true → w ≡ cond b w nobody
-left-yes b w t = sym (ap (λ (x : Bool). cond x w nobody) t)
-
-pub left-no : (b : Bool) (w : ℕ) → b ≡ false → nobody ≡ cond b w nobody
-left-no b w f = sym (ap (λ (x : Bool). cond x w nobody) f)
-
 -- one slot more
 pub barred-more : (people : ℕ) (avail o now : List ℕ) (k r : ℕ) → now ≡ over (left_to people avail o) k o
     → r ≡ cond (known_by people (get_or now k 0) && available_for avail (get_or now k 0) k) (get_or now k 0) nobody

@@ -1,4 +1,5 @@
 -- The entry: what a row that passes leaves known, and that what is written is the outcome. Assumes nothing.
+use Rattle.std.specs.Prelude.{Result, Ok, Err}
 use mathlib.Core.Path.{◌≡◌, refl, sym, ap, ap₂, subst, ◌∙◌}
 use mathlib.Core.Bool.{Bool, true, false, cond}
 use mathlib.Core.List.{List, [], ◌∷◌, ◌++◌}
@@ -15,9 +16,7 @@ use Rattle.paper.proofs.Logic.{by-test, people-says, slot-count-says}
 use Rattle.paper.proofs.Count.{length_over, get_d_over, get_d-over-out}
 use Rattle.paper.proofs.Refusals.{number-pass, number-fail}
 use Rattle.paper.proofs.Rows.{said, passed, worked, kept}
-use Rattle.slotset.specs.declared.Number.{Number}
-use Rattle.slotset.specs.declared.Number.TheVariants as number
-use Rattle.slotset.proofs.Refusals.{number_is, number-refused}
+use Rattle.slotset.proofs.Refusals.{answer-is, answer-refused}
 use Rattle.owners.specs.Derived.{Plan, Derived, derived, sets_from, total_of, afresh}
 use Rattle.owners.specs.Derived as figures
 use Rattle.owners.proofs.Sets.{length-sets}
@@ -43,43 +42,43 @@ number-stops ts t n =
 
 -- ---- what write_out leaves
 
-outcome-same : {a a' : Number} {R R' : Rota} {l l' : List ℕ} → a ≡ a' → R ≡ R' → l ≡ l'
+outcome-same : {a a' : Result ℕ ℕ} {R R' : Rota} {l l' : List ℕ} → a ≡ a' → R ≡ R' → l ≡ l'
     → ◌≡◌ {A = Outcome} (record { answer = a; rota = R; list = l }) (record { answer = a'; rota = R'; list = l' })
 outcome-same {a} {a'} {R} {R'} {l} {l'} ea e_r el =
-    ap₂ {C = Outcome} (λ (x : Number) (y : Rota). record { answer = x; rota = y; list = l }) ea e_r
+    ap₂ {C = Outcome} (λ (x : Result ℕ ℕ) (y : Rota). record { answer = x; rota = y; list = l }) ea e_r
     ∙ ap {B = Outcome} (λ (x : List ℕ). record { answer = a'; rota = R'; list = x }) el
 
-pub ended-as : (x y : Outcome) (r : Number) (R : Rota) (l : List ℕ) → x ≡ y → Ended x r R l → Ended y r R l
+pub ended-as : (x y : Outcome) (r : Result ℕ ℕ) (R : Rota) (l : List ℕ) → x ≡ y → Ended x r R l → Ended y r R l
 ended-as x y r R l e E = subst (λ (z : Outcome). Ended z r R l) e E
 
 module _ (people slots : ℕ) (frozen : List ℕ) (found new : Rota) (l : List ℕ) (n : ℕ) (en : n ≡ how_many people slots found new) where
   pub wrote-all : 5 * n ≤ length l → (R : Rota) (l' : List ℕ) → R ≡ taken_over people slots found new
-      → l' ≡ onto (numbers (repairs people slots frozen found new)) l → Ended (write_out people slots frozen found new l) (number.Is n) R l'
+      → l' ≡ onto (numbers (repairs people slots frozen found new)) l → Ended (write_out people slots frozen found new l) (Ok n) R l'
   unfolding write_out
   wrote-all h R l' e_r el =
       let m = how_many people slots found new in
       let t : leb (5 * m) (length l) ≡ true = le-leb (5 * m) (length l) (omega arith) in
       let yes : Outcome = record {
-        answer = number.Is m;
+        answer = Ok m;
         rota = taken_over people slots found new;
         list = onto (numbers (repairs people slots frozen found new)) l;
       } in
-      let no : Outcome = record { answer = number.Refused 2; rota = found; list = l } in
-      ended-as yes (cond (leb (5 * m) (length l)) yes no) (number.Is n) R l' (sym (ap (λ (b : Bool). cond b yes no) t))
-      record { said = ap number.Is en; left = e_r; list = el }
+      let no : Outcome = record { answer = Err 2; rota = found; list = l } in
+      ended-as yes (cond (leb (5 * m) (length l)) yes no) (Ok n) R l' (sym (ap (λ (b : Bool). cond b yes no) t))
+      record { said = ap Ok en; left = e_r; list = el }
 
-  pub wrote_none : length l < 5 * n → Ended (write_out people slots frozen found new l) (number.Refused 2) found l
+  pub wrote_none : length l < 5 * n → Ended (write_out people slots frozen found new l) (Err 2) found l
   unfolding write_out
   wrote_none h =
       let m = how_many people slots found new in
       let f : leb (5 * m) (length l) ≡ false = lt-leb (5 * m) (length l) (omega arith) in
       let yes : Outcome = record {
-        answer = number.Is m;
+        answer = Ok m;
         rota = taken_over people slots found new;
         list = onto (numbers (repairs people slots frozen found new)) l;
       } in
-      let no : Outcome = record { answer = number.Refused 2; rota = found; list = l } in
-      ended-as no (cond (leb (5 * m) (length l)) yes no) (number.Refused 2) found l (sym (ap (λ (b : Bool). cond b yes no) f))
+      let no : Outcome = record { answer = Err 2; rota = found; list = l } in
+      ended-as no (cond (leb (5 * m) (length l)) yes no) (Err 2) found l (sym (ap (λ (b : Bool). cond b yes no) f))
       record { said = refl; left = refl; list = refl }
 
 -- ---- what the first tests leave known
@@ -204,27 +203,27 @@ module _ (P : Plan) (avail : List ℕ) (units : ℕ) (begins frozen : List ℕ) 
             (λ t.
             let e : number_of (mend_row P avail units begins frozen R list) ≡ 0 = goes_on ∙ number-pass last [] t in
             ap (λ (b : Bool). wrote b) (most ∙ t)
-            ∙ outcome-same (number_is 0 _ (sym e) refl n (length due) many-due) (taken-over ∙ sym (worked _ R after e))
+            ∙ outcome-same (answer-is 0 _ (sym e) refl n (length due) many-due) (taken-over ∙ sym (worked _ R after e))
             (ap (λ (rs : List Repair). onto (numbers rs) list) due-listed ∙ sym (worked _ list (onto (numbers due) list) e)))
             (λ f.
             let e : number_of (mend_row P avail units begins frozen R list) ≡ 2 = goes_on ∙ number-fail last [] f in
             let two : number_of (mend_row P avail units begins frozen R list) ≡ 0 → ⊥ = λ q. omega (arith, q, e) in
             ap (λ (b : Bool). wrote b) (most ∙ f)
-            ∙ outcome-same (number-refused 2 _ (sym e) (λ q. omega arith) (length due)) (sym (kept _ R after two))
+            ∙ outcome-same (answer-refused 2 _ (sym e) (λ q. omega arith) (length due)) (sym (kept _ R after two))
             (sym (kept _ list (onto (numbers due) list) two)))
           where
             wrote : Bool → Outcome
             wrote b =
                 cond b (record {
-                  answer = number.Is (how_many P.people P.slots R new);
+                  answer = Ok (how_many P.people P.slots R new);
                   rota = taken_over P.people P.slots R new;
                   list = onto (numbers (repairs P.people P.slots frozen R new)) list;
                 })
-                (record { answer = number.Refused 2; rota = R; list = list })
+                (record { answer = Err 2; rota = R; list = list })
 
   -- what is lent isn't right: nothing changes
   pub ends-refused : (f : Refusal) (n : ℕ) → f ≡ refusal_of row → n ≡ f.number → (n ≡ 0 → ⊥) → (list : List ℕ)
-      → Ended (mending P avail units begins frozen R list) (number.Refused n) R list
+      → Ended (mending P avail units begins frozen R list) (Err n) R list
   unfolding mending mend_row
   ends-refused f n e q h list =
       let m : n ≡ number_of row = q ∙ said row e in
@@ -232,7 +231,7 @@ module _ (P : Plan) (avail : List ℕ) (units : ℕ) (begins frozen : List ℕ) 
       = number-stops row (test 2 (leb (5 * length due) (length list))) (λ w. h (m ∙ w)) in
       let some : number_of (mend_row P avail units begins frozen R list) ≡ 0 → ⊥ = λ w. h (m ∙ sym stays ∙ w) in
       record {
-        said = number-refused n _ (m ∙ sym stays) h (length due);
+        said = answer-refused n _ (m ∙ sym stays) h (length due);
         left = sym (kept _ R after some);
         list = sym (kept _ list (onto (numbers due) list) some);
       }

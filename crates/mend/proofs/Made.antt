@@ -1,16 +1,16 @@
 -- What is worked out beside what was found, and written where that stood. Assumes nothing.
 use mathlib.Core.Path.{◌≡◌, refl, sym, ap, ap₂, ◌∙◌}
 use mathlib.Core.Logic.{⊎_elim}
-use mathlib.Core.List.{List, []}
-use Prim.Native.Nat.{ℕ, zero, suc, ◌+◌, ◌*◌, ◌/◌, ◌%◌, ◌≤◌, ◌<◌}
+use mathlib.Core.List.{List, [], ◌++◌}
+use Prim.Native.Nat.{ℕ, zero, suc, ◌+◌, ◌-◌, ◌*◌, ◌/◌, ◌%◌, ◌≤◌, ◌<◌}
 use native.Mathlib.Omega.{arith}
 use borrow.Author.Tests.{eqb-true, eqb-false, le-leb}
 use lib.Dec.{eqb}
-use lib.ListN.{length, get_or, set}
-use lib.Seq.{ext_get_or, get_or-set_same, get_or-set_other}
+use lib.ListN.{length, get_or, take, drop, set, length-take, length-drop, length-append, get_or-append}
+use lib.Seq.{ext_get_or, get_or-set_same, get_or-set_other, get_or-take, get_or-drop, get_or-append_right}
 use Rattle.paper.specs.Limits.{number_of}
 use Rattle.paper.proofs.Logic.{by-test, lt-or-ge}
-use Rattle.paper.proofs.Count.{each_all, length_over, over_none, over-more, get_d_over, get_d-over-out}
+use Rattle.paper.proofs.Count.{each_all, length_over, get_d_over, get_d-over-out}
 use Rattle.paper.proofs.Rows.{all_pass, worked}
 use Rattle.slotset.specs.Slots.{put_slot, put_slots, with_bit}
 use Rattle.slotset.proofs.Puts.{length-puts}
@@ -29,17 +29,6 @@ use Rattle.mend.proofs.Kept.{mended-length, mended-known, mended-available, mend
 -- ---- columns copied
 
 module _ (from to₀ : List ℕ) where
-  pub copied_none : to₀ ≡ copied 0 from to₀
-  unfolding copied
-  copied_none = sym (over_none (λ k. get_or from k 0) to₀)
-
-  pub copied_more : (k : ℕ) (to : List ℕ) → to ≡ copied k from to₀ → set to k (get_or from k 0) ≡ copied (k + 1) from to₀
-  unfolding copied
-  copied_more k to e = ap (λ (l : List ℕ). set l k (get_or from k 0)) e ∙ sym (over-more (λ j. get_or from j 0) k to₀)
-
-  pub copied-end : (n k : ℕ) (to : List ℕ) → k ≤ n → n ≤ k → to ≡ copied k from to₀ → to ≡ copied n from to₀
-  copied-end n k to h g e = let q : k ≡ n = omega arith in e ∙ ap (λ (m : ℕ). copied m from to₀) q
-
   pub copied-length : (n : ℕ) → length (copied n from to₀) ≡ length to₀
   unfolding copied
   copied-length n = length_over (λ k. get_or from k 0) n to₀
@@ -59,6 +48,18 @@ module _ (from to₀ : List ℕ) where
       ext_get_or 0 (copied n from to₀) l (copied-length n ∙ sym long)
       (λ k h.
       ⊎_elim (λ (g : k < n). copied_at n k g room ∙ inner k g) (λ (g : n ≤ k). copied-past n k g ∙ sym (outer k g)) (lt-or-ge k n))
+
+  -- its front written over by that of another
+  pub copied-front : (n : ℕ) (front : List ℕ) → n ≤ length from → n ≤ length to₀ → front ≡ take n from
+      → front ++ drop n to₀ ≡ copied n from to₀
+  copied-front n front inside room e =
+      let l : length front ≡ n = omega (arith, ap length e, length-take n from) in
+      sym (copied_is n (front ++ drop n to₀) (omega (arith, length-append front (drop n to₀), length-drop n to₀)) room
+      (λ k h. sym (get_or-append front (drop n to₀) 0 k (omega arith) ∙ ap (λ (x : List ℕ). get_or x k 0) e ∙ get_or-take n from k 0 h))
+      (λ k h.
+      let q : n + (k - length front) ≡ k = omega arith in
+      get_or-append_right front (drop n to₀) k 0 (omega arith) ∙ get_or-drop n to₀ (k - length front) 0
+      ∙ ap (λ (i : ℕ). get_or to₀ i 0) q))
 
 -- two rotas with the same columns
 pub rota-same : {o o' s s' m m' t t' : List ℕ} → o ≡ o' → s ≡ s' → m ≡ m' → t ≡ t'

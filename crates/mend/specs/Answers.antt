@@ -1,10 +1,8 @@
 -- What a caller of mend is answered, and what the lent columns and the list hold then. Assumes nothing.
-use Rattle.std.specs.Prelude.{◌≡◌, List, [], ◌∷◌, ◌++◌, ℕ, ◌*◌, leb, length}
+use Rattle.std.specs.Prelude.{◌≡◌, List, [], ◌∷◌, ◌++◌, ℕ, ◌*◌, leb, length, Result}
 use Rattle.paper.specs.Limits.{set_words, people_ok, slot_count_ok, Test, test, number_of}
-use Rattle.paper.specs.Rows.{unless}
+use Rattle.paper.specs.Rows.{unless, answer_as}
 use Rattle.paper.specs.Count.{onto}
-use Rattle.slotset.specs.declared.Number.{Number}
-use Rattle.slotset.specs.Answers.{number_as}
 use Rattle.slots.specs.Lent.{slot_room_ok, slots_ok}
 use Rattle.units.specs.Units.{units_ok}
 use Rattle.owners.specs.Derived.{Plan, afresh}
@@ -38,7 +36,7 @@ mend_row P avail units begins frozen R list =
 -- ---- the outcome: how many repairs; a refusal changes nothing, the list too
 
 pub record Outcome : Type 0 where
-  pub answer : Number
+  pub answer : Result ℕ ℕ
   pub rota : Rota
   pub list : List ℕ
 
@@ -47,13 +45,13 @@ mending P avail units begins frozen R list =
     let n = number_of (mend_row P avail units begins frozen R list) in
     let rs = repairs_due P avail units begins frozen R in
     record {
-      answer = number_as n (length rs);
+      answer = answer_as n (length rs);
       rota = unless n R (mended_rota P avail units begins R);
       list = unless n list (onto (numbers rs) list);
     }
 
 -- what is answered and what is left are those of the outcome
-pub record Ended (y : Outcome) (r : Number) (R : Rota) (l : List ℕ) : Type 0 where
+pub record Ended (y : Outcome) (r : Result ℕ ℕ) (R : Rota) (l : List ℕ) : Type 0 where
   pub said : r ≡ y.answer
   pub left : R ≡ y.rota
   pub list : l ≡ y.list

@@ -1,8 +1,7 @@
 -- What private functions of mend alone cite: how far the list is written, and what is worked out beside what was found. Assumes nothing.
-use Rattle.std.specs.Prelude.{◌≡◌, true, cond, List, ◌++◌, ℕ, ◌+◌, ◌*◌, ◌≤◌, ◌<◌, leb, length, get_or}
+use Rattle.std.specs.Prelude.{◌≡◌, true, cond, List, ◌++◌, ℕ, ◌+◌, ◌*◌, ◌≤◌, ◌<◌, leb, length, get_or, Ok, Err}
 use Rattle.paper.specs.Limits.{people_ok, slot_count_ok}
 use Rattle.paper.specs.Count.{count, over, onto}
-use Rattle.slotset.specs.declared.Number.TheVariants as number
 use Rattle.slots.specs.Lent.{slot_room_ok, slots_ok}
 use Rattle.units.specs.Units.{units_ok}
 use Rattle.owners.specs.Derived.{Plan, derived, sets_from, worked, total_of}
@@ -68,9 +67,9 @@ write_out people slots frozen found new l =
     let n = how_many people slots found new in
     cond (leb (5 * n) (length l))
     (record {
-      answer = number.Is n;
+      answer = Ok n;
       rota = taken_over people slots found new;
       list = onto (numbers (repairs people slots frozen found
           new)) l;
     })
-    (record { answer = number.Refused 2; rota = found; list = l })
+    (record { answer = Err 2; rota = found; list = l })

@@ -12,13 +12,11 @@ use owners::{available_for, known_by};
 fn left_to(people: usize, avail: &[u64], owner: u8, k: usize) -> u8
     ensures { result ≡ cond (known_by people owner && available_for avail.now owner k) owner nobody }
 {
-    if known_by(people, owner) {
-        if available_for(avail, owner, k) {
-            return owner;
-        }
-        return paper::NOBODY;
+    if known_by(people, owner) && available_for(avail, owner, k) {
+        owner
+    } else {
+        paper::NOBODY
     }
-    paper::NOBODY
 }
 
 // Step 1: each owner who is unknown, or not available for the slot, is cleared.
@@ -26,10 +24,8 @@ pub(crate) fn clear_barred(people: usize, slots: usize, avail: &[u64], owners: &
     requires { slots ≤ length owners.old }
     ensures { owners.new ≡ barred_cleared people slots avail.now owners.old }
 {
-    let mut k: usize = 0;
-    while k < slots {
+    for k in 0..slots {
         owners[k] = left_to(people, avail, owners[k], k);
-        k += 1;
     }
 }
 
@@ -47,15 +43,11 @@ pub(crate) fn clear_uneven(slots: usize, units: usize, begins: &[u16], owners: &
     requires { units_ok slots units begins.now ≡ true }
     ensures { owners.new ≡ uneven_cleared slots units begins.now owners.old units }
 {
-    let mut u: usize = 0;
-    while u < units {
-        if is_even(slots, units, begins, owners, u) {
-            u += 1;
-        } else {
+    for u in 0..units {
+        if !is_even(slots, units, begins, owners, u) {
             let a = units::start_of(begins, u);
             let e = units::unit_end(slots, units, begins, u);
             owners::fill_owners(owners, a, e, paper::NOBODY);
-            u += 1;
         }
     }
 }

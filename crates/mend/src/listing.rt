@@ -12,7 +12,7 @@ use slotset::bit::holds;
 fn word_at(words: &[u64], k: usize) -> u64
     ensures { result ≡ get_or words.now k 0 }
 {
-    if k < words.len() { words[k] } else { 0 }
+    words.get(k).copied().unwrap_or(0)
 }
 
 // How many of the first n owners differ.
@@ -20,13 +20,9 @@ pub(crate) fn count_owners(n: usize, old: &[u8], new: &[u8]) -> usize
     ensures { result ≡ count n (differs_at old.now new.now) }
 {
     let mut found: usize = 0;
-    let mut k: usize = 0;
-    while k < n {
-        if owner_at(old, k) == owner_at(new, k) {
-            k += 1;
-        } else {
+    for k in 0..n {
+        if owner_at(old, k) != owner_at(new, k) {
             found += 1;
-            k += 1;
         }
     }
     found
@@ -37,13 +33,9 @@ pub(crate) fn count_words(n: usize, old: &[u64], new: &[u64]) -> usize
     ensures { result ≡ count n (differs_at old.now new.now) }
 {
     let mut found: usize = 0;
-    let mut k: usize = 0;
-    while k < n {
-        if word_at(old, k) == word_at(new, k) {
-            k += 1;
-        } else {
+    for k in 0..n {
+        if word_at(old, k) != word_at(new, k) {
             found += 1;
-            k += 1;
         }
     }
     found
@@ -68,18 +60,11 @@ fn write_repair(at: usize, list: &mut [u64], part: u64, place: u64, old: u64, ne
     list[i + 4] = frozen;
 }
 
-// A number of 8 bits as one of 64.
-fn wide(x: u8) -> u64
-    ensures { result ≡ x }
-{
-    x as u64
-}
-
 // 1 for a slot that is frozen, else 0.
 fn flag_of(frozen: &[u64], k: usize) -> u64
     ensures { result ≡ flag_of frozen.now 0 k }
 {
-    if holds(frozen, 0, k) { 1 } else { 0 }
+    u64::from(holds(frozen, 0, k))
 }
 
 // Lists the first n owners that differ, after the first `at` repairs; how many are listed then.
@@ -95,24 +80,20 @@ pub(crate) fn list_owners(
     ensures { Lists 0 (flag_of frozen.now 0) n old.now new.now at result list.old list.new }
 {
     let mut done = at;
-    let mut k: usize = 0;
-    while k < n {
+    for k in 0..n {
         let was = owner_at(old, k);
         let is = owner_at(new, k);
-        if was == is {
-            k += 1;
-        } else {
+        if was != is {
             write_repair(
                 done,
                 list,
                 0,
                 k as u64,
-                wide(was),
-                wide(is),
+                u64::from(was),
+                u64::from(is),
                 flag_of(frozen, k),
             );
             done += 1;
-            k += 1;
         }
     }
     done
@@ -131,16 +112,12 @@ pub(crate) fn list_words(
     ensures { Lists part (λ _. 0) n old.now new.now at result list.old list.new }
 {
     let mut done = at;
-    let mut k: usize = 0;
-    while k < n {
+    for k in 0..n {
         let was = word_at(old, k);
         let is = word_at(new, k);
-        if was == is {
-            k += 1;
-        } else {
+        if was != is {
             write_repair(done, list, part, k as u64, was, is, 0);
             done += 1;
-            k += 1;
         }
     }
     done
@@ -160,7 +137,8 @@ pub(crate) fn count_repairs(
     new_totals: &[u64],
 ) -> usize
     requires { (people ≤ 32) × (slots ≤ 1024) }
-    ensures { result ≡ how_many people slots (rota owners.now (derived sets.now minutes.now totals.now)) (rota new_owners.now (derived new_sets.now new_minutes.now new_totals.now)) }
+    ensures { result ≡ how_many people slots (rota owners.now (derived sets.now minutes.now totals.now))
+        (rota new_owners.now (derived new_sets.now new_minutes.now new_totals.now)) }
 {
     count_owners(slots, owners, new_owners)
         + count_words(16 * people, sets, new_sets)
@@ -185,7 +163,8 @@ pub(crate) fn list_repairs(
 )
     requires { (people ≤ 32) × (slots ≤ 1024) × (5 * how_many people slots (rota owners.now (derived sets.now minutes.now totals.now))
         (rota new_owners.now (derived new_sets.now new_minutes.now new_totals.now)) ≤ length list.old) }
-    ensures { list.new ≡ onto (numbers (repairs people slots frozen.now (rota owners.now (derived sets.now minutes.now totals.now)) (rota new_owners.now (derived new_sets.now new_minutes.now new_totals.now)))) list.old }
+    ensures { list.new ≡ onto (numbers (repairs people slots frozen.now (rota owners.now (derived sets.now minutes.now totals.now))
+        (rota new_owners.now (derived new_sets.now new_minutes.now new_totals.now)))) list.old }
 {
     let n = list_owners(slots, frozen, owners, new_owners, 0, list);
     let n = list_words(1, 16 * people, sets, new_sets, n, list);

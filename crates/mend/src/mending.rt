@@ -10,31 +10,6 @@ ghost use Rattle.mend.specs.Inside.{copied, taken_over, Mendable, NewRoom, Worke
 use crate::clearing::{clear_barred, clear_uneven};
 use crate::listing::{count_repairs, list_repairs};
 use paper::Refusal;
-use slotset::Number;
-
-// Copies the first n owners.
-fn copy_owners(n: usize, from: &[u8], to: &mut [u8])
-    requires { (n ≤ length from.now) × (n ≤ length to.old) }
-    ensures { to.new ≡ copied n from.now to.old }
-{
-    let mut k: usize = 0;
-    while k < n {
-        to[k] = from[k];
-        k += 1;
-    }
-}
-
-// Copies the first n words.
-fn copy_words(n: usize, from: &[u64], to: &mut [u64])
-    requires { (n ≤ length from.now) × (n ≤ length to.old) }
-    ensures { to.new ≡ copied n from.now to.old }
-{
-    let mut k: usize = 0;
-    while k < n {
-        to[k] = from[k];
-        k += 1;
-    }
-}
 
 // Works out what a rota is mended to, in columns of its own: its owners, and from them sets, minutes and totals.
 fn work_out(
@@ -54,12 +29,14 @@ fn work_out(
 )
     requires mendable { Mendable (plan people slots starts.now ends.now) avail.now units begins.now owners.now sets.now }
     requires new_room { NewRoom people slots new_owners.old new_sets.old new_minutes.old new_totals.old }
-    ensures { WorkedOut (plan people slots starts.now ends.now) avail.now units begins.now owners.now sets.now new_owners.new new_sets.new new_minutes.new new_totals.new }
+    ensures { WorkedOut (plan people slots starts.now ends.now) avail.now units begins.now owners.now sets.now
+        new_owners.new new_sets.new new_minutes.new new_totals.new }
 {
-    copy_owners(slots, owners, new_owners);
+    new_owners[..slots].copy_from_slice(&owners[..slots]);
     clear_barred(people, slots, avail, new_owners);
     clear_uneven(slots, units, begins, new_owners);
-    copy_words(paper::SET_WORDS * people, sets, new_sets);
+    let words = paper::SET_WORDS * people;
+    new_sets[..words].copy_from_slice(&sets[..words]);
     owners::from_slots(
         people,
         slots,
@@ -94,10 +71,11 @@ fn take_over(
         (rota owners.old (derived sets.old minutes.old totals.old)) (rota new_owners.now
         (derived new_sets.now new_minutes.now new_totals.now)) }
 {
-    copy_owners(slots, new_owners, owners);
-    copy_words(paper::SET_WORDS * people, new_sets, sets);
-    copy_words(people, new_minutes, minutes);
-    copy_words(2, new_totals, totals);
+    let words = paper::SET_WORDS * people;
+    owners[..slots].copy_from_slice(&new_owners[..slots]);
+    sets[..words].copy_from_slice(&new_sets[..words]);
+    minutes[..people].copy_from_slice(&new_minutes[..people]);
+    totals[..2].copy_from_slice(&new_totals[..2]);
 }
 
 // Writes what is new where what was found stood, and lists what differs; 2 where the list has no room, and then nothing is written.
@@ -114,11 +92,13 @@ fn write_out(
     minutes: &mut [u64],
     totals: &mut [u64],
     list: &mut [u64],
-) -> Number
+) -> Result<usize, u8>
     requires people_bound { (people ≤ 32) × (slots ≤ 1024) }
     requires new_room { NewRoom people slots new_owners.now new_sets.now new_minutes.now new_totals.now }
     requires new_room_2 { NewRoom people slots owners.old sets.old minutes.old totals.old }
-    ensures { Ended (write_out people slots frozen.now (rota owners.old (derived sets.old minutes.old totals.old)) (rota new_owners.now (derived new_sets.now new_minutes.now new_totals.now)) list.old) result (rota owners.new (derived sets.new minutes.new totals.new)) list.new }
+    ensures { Ended (write_out people slots frozen.now (rota owners.old (derived sets.old minutes.old totals.old))
+        (rota new_owners.now (derived new_sets.now new_minutes.now new_totals.now)) list.old) result
+        (rota owners.new (derived sets.new minutes.new totals.new)) list.new }
 {
     let n = count_repairs(
         people,
@@ -159,9 +139,9 @@ fn write_out(
             minutes,
             totals,
         );
-        return Number::Is(n);
+        return Ok(n);
     }
-    Number::Refused(2)
+    Err(2)
 }
 
 // Mends a rota that nothing stands against but the list's room: 2 where the repairs don't fit it, and then nothing is written.
@@ -179,11 +159,12 @@ fn mend_found(
     minutes: &mut [u64],
     totals: &mut [u64],
     list: &mut [u64],
-) -> Number
+) -> Result<usize, u8>
     requires { number_of (found_row (plan people slots starts.now ends.now) avail.now units begins.now frozen.now (rota owners.old
         (derived sets.old minutes.old totals.old))) ≡ 0 }
-    ensures { Ended (mending (plan people slots starts.now ends.now) avail.now units begins.now frozen.now (rota owners.old (derived sets.old minutes.old totals.old))
-        list.old) result (rota owners.new (derived sets.new minutes.new totals.new)) list.new }
+    ensures { Ended (mending (plan people slots starts.now ends.now) avail.now units begins.now frozen.now
+        (rota owners.old (derived sets.old minutes.old totals.old)) list.old) result
+        (rota owners.new (derived sets.new minutes.new totals.new)) list.new }
 {
     let mut new_owners = [0u8; 1024];
     let mut new_sets = [0u64; 512];
@@ -235,7 +216,8 @@ fn found_refusal(
     minutes: &[u64],
     totals: &[u64],
 ) -> Refusal
-    ensures { result ≡ refusal_of (found_row (plan people slots starts.now ends.now) avail.now units begins.now frozen.now (rota owners.now (derived sets.now minutes.now totals.now))) }
+    ensures { result ≡ refusal_of (found_row (plan people slots starts.now ends.now) avail.now units begins.now frozen.now
+        (rota owners.now (derived sets.now minutes.now totals.now))) }
 {
     let f = paper::check_people(paper::accepted(), people);
     let f = paper::check_slots(f, slots);
@@ -252,9 +234,8 @@ fn found_refusal(
 }
 
 // Mends a damaged rota: an owner who is unknown or not available is cleared, then a unit that has not one owner is cleared whole, then
-// sets,
-// minutes and totals are worked out anew. Answers how many repairs that took; they are listed, five numbers each. Refusals 1, 2, 9, and 2
-// where the list has no room for them.
+// sets, minutes and totals are worked out anew. Answers how many repairs that took; they are listed, five numbers each. Refusals 1, 2, 9,
+// and 2 where the list has no room for them.
 pub fn mend(
     people: usize,
     slots: usize,
@@ -269,9 +250,10 @@ pub fn mend(
     minutes: &mut [u64],
     totals: &mut [u64],
     list: &mut [u64],
-) -> Number
-    ensures { Ended (mending (plan people slots starts.now ends.now) avail.now units begins.now frozen.now (rota owners.old (derived sets.old minutes.old totals.old))
-        list.old) result (rota owners.new (derived sets.new minutes.new totals.new)) list.new }
+) -> Result<usize, u8>
+    ensures { Ended (mending (plan people slots starts.now ends.now) avail.now units begins.now frozen.now
+        (rota owners.old (derived sets.old minutes.old totals.old)) list.old) result
+        (rota owners.new (derived sets.new minutes.new totals.new)) list.new }
 {
     let n = found_refusal(
         people, slots, units, starts, ends, avail, begins, frozen, owners, sets, minutes, totals,
@@ -283,5 +265,5 @@ pub fn mend(
             totals, list,
         );
     }
-    Number::Refused(n)
+    Err(n)
 }

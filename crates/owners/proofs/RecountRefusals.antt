@@ -1,18 +1,18 @@
 -- The recount as a row of tests: which of them fails first, and where. Assumes nothing.
+use Rattle.std.specs.Prelude.{Ok, Err}
 use Rattle.std.proofs.Common.{◌≡◌, ℕ, suc, ◌*◌, ◌<◌, ◌≤◌, Bool, true, false, cond, eqb, ltb, leb, List, [], ◌∷◌, ◌++◌, length, get_or, replicate, sym, refl, ap, ◌∙◌, ap₂, ⊎_elim, true≢false, arith, ltb-true, eqb-true, le-leb}
 use borrow.Author.Tests.{eqb-false}
 use lib.ListN.{length-replicate}
 use Rattle.paper.specs.Count.{all, over}
 use Rattle.paper.specs.Limits.{people_ok, Test, number_of}
 use Rattle.paper.specs.declared.Refusal.{Refusal}
-use Rattle.paper.specs.Rows.{accepted, test_refusal, refusal_of}
+use Rattle.paper.specs.Rows.{accepted, test_refusal, refusal_of, answer_as}
 use Rattle.paper.proofs.Logic.{by-test, lt-or-ge, both, and-true}
 use Rattle.paper.proofs.Count.{all_same, length_over, get_d_over}
 use Rattle.paper.proofs.Refusals.{number-pass, number-fail}
 use Rattle.paper.proofs.Rows.{numbered, worked as as-worked}
 use Rattle.slotset.specs.Slots.{slot, same_slots}
-use Rattle.slotset.specs.declared.YesNo.TheVariants as yes_no
-use Rattle.slotset.specs.Answers.{same_sets, same_sets_row, yes_no_as}
+use Rattle.slotset.specs.Answers.{same_sets, same_sets_row}
 use Rattle.slotset.proofs.Refusals.{says_same}
 use Rattle.owners.specs.Derived.{Plan, Derived, derived, worked, total_of, sets_from, afresh}
 use Rattle.owners.specs.Inside.{PlanSound, Makes, is_yes, same_set, same_entry}
@@ -201,12 +201,12 @@ unfolding same_sets all
 none-same ws vs slots = refl
 
 pub yes-same : (ws vs : List ℕ) (people slots : ℕ) → 1 ≤ people → people ≤ 32 → slots ≤ 1024 → 16 * people ≤ length ws
-    → 16 * people ≤ length vs → is_yes (yes_no_as (number_of (same_sets_row ws vs people slots)) (same_sets ws vs people slots))
+    → 16 * people ≤ length vs → is_yes (answer_as (number_of (same_sets_row ws vs people slots)) (same_sets ws vs people slots))
     ≡ same_sets ws vs people slots
-unfolding yes_no_as people_ok
+unfolding answer_as people_ok
 yes-same ws vs people slots some few short room more =
-    ap is_yes (as-worked (number_of (same_sets_row ws vs people slots)) (yes_no.Refused (number_of (same_sets_row ws vs people slots)))
-    (cond (same_sets ws vs people slots) yes_no.Yes yes_no.No) (says_same ws vs people slots people-right short room more))
+    ap is_yes (as-worked (number_of (same_sets_row ws vs people slots)) (Err (number_of (same_sets_row ws vs people slots)))
+    (Ok (same_sets ws vs people slots)) (says_same ws vs people slots people-right short room more))
     ∙ by-test (same_sets ws vs people slots) _ (λ t. simp t) (λ f. simp f)
   where
     people-right : people_ok people ≡ true

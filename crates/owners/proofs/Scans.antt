@@ -8,7 +8,6 @@ use Rattle.slotset.specs.Slots.{slot}
 use Rattle.slotset.proofs.Puts.{slot_lt}
 use Rattle.slots.specs.Lent.{minutes_at}
 use Rattle.units.specs.Units.{unit_start, unit_end}
-use Rattle.units.specs.Domains.{available}
 use Rattle.owners.specs.Derived.{Plan, portion, held, length_at, known_by}
 use Rattle.owners.specs.Inside.{PlanSound}
 use Rattle.owners.specs.Recount.{first_fail, known_at, available_for, available_at, even_at, set_slot_at}
@@ -132,11 +131,6 @@ available-nobody avail w k e = simp (eq-eqb w nobody e)
 pub available-here : (avail o : List ℕ) (k w : ℕ) (b : Bool) → w ≡ get_or o k 0 → b ≡ available_for avail w k → available_at avail o k ≡ b
 unfolding available_at
 available-here avail o k w b e q = sym (q ∙ ap (λ (v : ℕ). available_for avail v k) e)
-
-pub available-person : (avail : List ℕ) (w k : ℕ) (b : Bool) → (w ≡ nobody → ⊥) → b ≡ eqb (slot avail (16 * w) k) 1
-    → b ≡ available_for avail w k
-unfolding available_for available
-available-person avail w k b n e = simp (ne_eqb w nobody n) e
 
 -- past its end a stretch is as long as up to it
 pub in-past : (p : ℕ → Bool) (a e k : ℕ) → k - a ≤ e - a → e ≤ k → all_in a k p ≡ true → true ≡ all_in a e p

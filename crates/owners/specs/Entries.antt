@@ -1,14 +1,12 @@
 -- What a caller is answered of each entry, and what the lent columns hold then. Assumes nothing.
-use Rattle.std.specs.Prelude.{◌≡◌, ℕ, ◌*◌, Bool, true, cond, List, [], ◌∷◌, ◌++◌, length, replicate, nat_le, nat_lt, slice_index}
+use Rattle.std.specs.Prelude.{◌≡◌, ℕ, ◌*◌, Bool, true, cond, List, [], ◌∷◌, ◌++◌, length, replicate, nat_le, nat_lt, slice_index, Result}
 use Rattle.paper.specs.Limits.{people_ok, slot_count_ok, nobody, Test, test, number_of}
 use Rattle.paper.specs.declared.Refusal.{Refusal}
-use Rattle.paper.specs.Rows.{unless}
+use Rattle.paper.specs.Rows.{unless, answer_as}
 use Rattle.paper.specs.Count.{all, fill}
 use Rattle.slotset.specs.declared.Changed.{Changed}
-use Rattle.slotset.specs.declared.Number.{Number}
-use Rattle.slotset.specs.Answers.{load_of, number_as}
-use Rattle.slots.specs.declared.Minutes.{Minutes}
-use Rattle.slots.specs.Lent.{slot_room_ok, slots_ok, minutes_as}
+use Rattle.slotset.specs.Answers.{load_of}
+use Rattle.slots.specs.Lent.{slot_room_ok, slots_ok}
 use Rattle.units.specs.Units.{units_ok}
 use Rattle.owners.specs.Derived.{Plan, Derived, known_by, afresh, unassigned, uncovered}
 use Rattle.owners.specs.Recount.{known_at, available_at, recount_tests}
@@ -95,23 +93,23 @@ owner_row people slots o k =
     test 1 (people_ok people) ∷ test 1 (slot_count_ok slots) ∷ test 2 (nat_le slots (length o)) ∷ test 11 (nat_lt k slots)
     ∷ test 11 (known_by people (slice_index o k)) ∷ []
 
-unfoldable pub owner_is : ℕ → ℕ → List ℕ → ℕ → Number
-owner_is people slots o k = number_as (number_of (owner_row people slots o k)) (slice_index o k)
+unfoldable pub owner_is : ℕ → ℕ → List ℕ → ℕ → Result ℕ ℕ
+owner_is people slots o k = answer_as (number_of (owner_row people slots o k)) (slice_index o k)
 
 -- a person's minutes: 1, 2, 11
 unfoldable pub minutes_row : ℕ → List ℕ → ℕ → List Test
 minutes_row people m p = test 1 (people_ok people) ∷ test 2 (nat_le people (length m)) ∷ test 11 (nat_lt p people) ∷ []
 
-unfoldable pub minutes_is : ℕ → List ℕ → ℕ → Minutes
-minutes_is people m p = minutes_as (number_of (minutes_row people m p)) (slice_index m p)
+unfoldable pub minutes_is : ℕ → List ℕ → ℕ → Result ℕ ℕ
+minutes_is people m p = answer_as (number_of (minutes_row people m p)) (slice_index m p)
 
 -- how many slots nobody owns: 1, 2, 11 for an unknown owner
 unfoldable pub unassigned_row : ℕ → ℕ → List ℕ → List Test
 unassigned_row people slots o =
     test 1 (people_ok people) ∷ test 1 (slot_count_ok slots) ∷ test 2 (nat_le slots (length o)) ∷ test 11 (all slots (known_at people o)) ∷ []
 
-unfoldable pub unassigned_is : ℕ → ℕ → List ℕ → Number
-unassigned_is people slots o = number_as (number_of (unassigned_row people slots o)) (unassigned slots o)
+unfoldable pub unassigned_is : ℕ → ℕ → List ℕ → Result ℕ ℕ
+unassigned_is people slots o = answer_as (number_of (unassigned_row people slots o)) (unassigned slots o)
 
 -- the minutes that nobody owns: 1, 2, 9, 11
 unfoldable pub uncovered_row : Plan → List ℕ → List Test
@@ -120,8 +118,8 @@ uncovered_row P o =
     ∷ test 2 (nat_le P.slots (length o)) ∷ test 9 (slots_ok P.slots P.starts P.ends)
     ∷ test 11 (all P.slots (known_at P.people o)) ∷ []
 
-unfoldable pub uncovered_is : Plan → List ℕ → Minutes
-uncovered_is P o = minutes_as (number_of (uncovered_row P o)) (uncovered P o)
+unfoldable pub uncovered_is : Plan → List ℕ → Result ℕ ℕ
+uncovered_is P o = answer_as (number_of (uncovered_row P o)) (uncovered P o)
 
 -- a person's slots, as a set by value: 1, 2, 11; refused, the empty set of no slots
 unfoldable pub slots_of_is : ℕ → ℕ → List ℕ → ℕ → Changed

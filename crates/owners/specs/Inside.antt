@@ -1,8 +1,6 @@
 -- What contracts of private functions cite, here and in rota: what the checks leave known. Assumes nothing.
-use Rattle.std.specs.Prelude.{◌≡◌, ℕ, ◌-◌, ◌*◌, ◌<◌, ◌≤◌, Bool, true, false, not, List, length, ◌==◌, slice_index}
+use Rattle.std.specs.Prelude.{◌≡◌, ℕ, ◌-◌, ◌*◌, ◌<◌, ◌≤◌, Bool, true, false, not, List, length, ◌==◌, slice_index, Result, Ok, Err}
 use Rattle.paper.specs.Count.{fill}
-use Rattle.slotset.specs.declared.YesNo.{YesNo}
-use Rattle.slotset.specs.declared.YesNo.TheVariants as yes_no
 use Rattle.slotset.specs.Slots.{slot, same_slots}
 use Rattle.slotset.specs.Answers.{row_slots}
 use Rattle.slots.specs.Lent.{SlotsSound}
@@ -61,10 +59,10 @@ same_bit a true = a
 same_bit a false = not a
 
 -- an answer is yes
-abbrev pub is_yes : YesNo → Bool
-is_yes yes_no.Yes = true
-is_yes yes_no.No = false
-is_yes (yes_no.Refused n) = false
+abbrev pub is_yes : Result Bool ℕ → Bool
+is_yes (Ok true) = true
+is_yes (Ok false) = false
+is_yes (Err n) = false
 
 -- person p's set, and entry p of a column, are the same in two that are lent
 abbrev pub same_set : ℕ → List ℕ → List ℕ → ℕ → Bool

@@ -24,7 +24,8 @@ pub(crate) fn lent_refusal(
     minutes: &[u64],
     totals: &[u64],
 ) -> Refusal
-    ensures { result ≡ refusal_of (lent_row counts room (plan people slots starts.now ends.now) avail.now owners.now (derived sets.now minutes.now totals.now)) }
+    ensures { result ≡ refusal_of (lent_row counts room (plan people slots starts.now ends.now) avail.now owners.now
+        (derived sets.now minutes.now totals.now)) }
 {
     let f = paper::check_people(paper::accepted(), people);
     let f = paper::check_slots(f, slots);

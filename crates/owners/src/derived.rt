@@ -1,4 +1,5 @@
-// What is derived from owners, everybody's set of slots and minutes and the totals of what nobody owns: handed over a stretch at a time, and worked out afresh.
+// What is derived from owners, everybody's set of slots and minutes and the totals of what nobody owns: handed over a stretch at a time,
+// and worked out afresh.
 ghost use Rattle.std.specs.Prelude.{◌≡◌, ◌+◌, ◌-◌, ◌*◌, ◌<◌, ◌≤◌, length, set, slice_index, slice_set};
 ghost use Rattle.paper.specs.Count.{fill, over};
 ghost use Rattle.owners.specs.Derived.{plan, derived, afresh, taken, given, stretch_minutes, wrapped, carried, sets_from, nobodies};
@@ -7,19 +8,12 @@ ghost use Rattle.owners.specs.Inside.{PlanSound, OneOwner, Makes};
 use crate::scan::owner_at;
 use slotset::row::put_stretch;
 
-// n less than m, at least 0.
-fn less(m: u64, n: u64) -> u64
-    ensures { result ≡ m - n }
-{
-    if n < m { m - n } else { 0 }
-}
-
 // n less at place i of a column, at least 0; a place that isn't lent has none.
 fn less_at(column: &mut [u64], i: usize, n: u64)
     ensures { column.new ≡ slice_set column.old i (slice_index column.old i - n) }
 {
     if i < column.len() {
-        column[i] = less(column[i], n);
+        column[i] = column[i].saturating_sub(n);
     }
 }
 
@@ -28,7 +22,7 @@ fn more_at(column: &mut [u64], i: usize, n: u64)
     ensures { column.new ≡ slice_set column.old i (wrapped (slice_index column.old i + n)) }
 {
     if i < column.len() {
-        column[i] = std::num::wrapping_add_u64(column[i], n);
+        column[i] = column[i].wrapping_add(n);
     }
 }
 
@@ -36,14 +30,7 @@ fn more_at(column: &mut [u64], i: usize, n: u64)
 fn slots_in(a: usize, e: usize) -> u64
     ensures { result ≡ e - a }
 {
-    if a < e { (e - a) as u64 } else { 0 }
-}
-
-// A number of 32 bits as one of 64.
-fn wide(x: u32) -> u64
-    ensures { result ≡ x }
-{
-    x as u64
+    e.saturating_sub(a) as u64
 }
 
 // The minutes of slots a up to e, all of them lent: none is tested by itself.
@@ -52,10 +39,8 @@ fn lent_minutes(starts: &[u32], ends: &[u32], a: usize, e: usize) -> u64
     ensures { result ≡ wrapped (stretch_minutes starts.now ends.now a e) }
 {
     let mut total: u64 = 0;
-    let mut k = a;
-    while k < e {
-        total = std::num::wrapping_add_u64(total, less(wide(ends[k]), wide(starts[k])));
-        k += 1;
+    for k in a..e {
+        total = total.wrapping_add(u64::from(ends[k].saturating_sub(starts[k])));
     }
     total
 }
@@ -65,10 +50,8 @@ fn any_minutes(starts: &[u32], ends: &[u32], a: usize, e: usize) -> u64
     ensures { result ≡ wrapped (stretch_minutes starts.now ends.now a e) }
 {
     let mut total: u64 = 0;
-    let mut k = a;
-    while k < e {
-        total = std::num::wrapping_add_u64(total, slots::minutes_at(starts, ends, k) as u64);
-        k += 1;
+    for k in a..e {
+        total = total.wrapping_add(u64::from(slots::minutes_at(starts, ends, k)));
     }
     total
 }
@@ -77,50 +60,19 @@ fn any_minutes(starts: &[u32], ends: &[u32], a: usize, e: usize) -> u64
 fn stretch_minutes(starts: &[u32], ends: &[u32], a: usize, e: usize) -> u64
     ensures { result ≡ wrapped (stretch_minutes starts.now ends.now a e) }
 {
-    if e <= starts.len() {
-        if e <= ends.len() {
-            return lent_minutes(starts, ends, a, e);
-        }
-        return any_minutes(starts, ends, a, e);
-    }
-    any_minutes(starts, ends, a, e)
-}
-
-// Slots a up to e, all of them lent, get an owner: none is tested by itself.
-fn fill_lent(owners: &mut [u8], a: usize, e: usize, owner: u8)
-    requires { e ≤ length owners.old }
-    ensures { owners.new ≡ fill owner a (e - a) owners.old }
-{
-    let mut k = a;
-    while k < e {
-        owners[k] = owner;
-        k += 1;
+    if e <= starts.len() && e <= ends.len() {
+        lent_minutes(starts, ends, a, e)
+    } else {
+        any_minutes(starts, ends, a, e)
     }
 }
 
 // Slots a up to e get an owner; those that aren't lent get none.
-fn fill_any(owners: &mut [u8], a: usize, e: usize, owner: u8)
-    ensures { owners.new ≡ fill owner a (e - a) owners.old }
-{
-    let mut k = a;
-    while k < e {
-        if k < owners.len() {
-            owners[k] = owner;
-            k += 1;
-        } else {
-            k += 1;
-        }
-    }
-}
-
-// The same, by whether they are all lent.
 pub fn fill_owners(owners: &mut [u8], a: usize, e: usize, owner: u8)
     ensures { owners.new ≡ fill owner a (e - a) owners.old }
 {
-    if e <= owners.len() {
-        fill_lent(owners, a, e, owner);
-    } else {
-        fill_any(owners, a, e, owner);
+    for k in a..e.min(owners.len()) {
+        owners[k] = owner;
     }
 }
 
@@ -187,7 +139,8 @@ pub fn hand_over(
     e: usize,
     to: u8,
 )
-    ensures { (owners.new ≡ fill to a (e - a) owners.old) × (derived sets.new minutes.new totals.new ≡ carried (plan people slots starts.now ends.now) a e (slice_index owners.old a) to
+    ensures { (owners.new ≡ fill to a (e - a) owners.old)
+        × (derived sets.new minutes.new totals.new ≡ carried (plan people slots starts.now ends.now) a e (slice_index owners.old a) to
         (derived sets.old minutes.old totals.old)) }
 {
     let old = owner_at(owners, a);
@@ -203,15 +156,12 @@ fn stretch_end(slots: usize, owners: &[u8], i: usize) -> usize
     ensures { OneOwner owners.now slots i result }
 {
     let owner = owners[i];
-    let mut e = i + 1;
-    while e < slots {
-        if owners[e] == owner {
-            e += 1;
-        } else {
+    for e in i + 1..slots {
+        if owners[e] != owner {
             return e;
         }
     }
-    e
+    slots
 }
 
 // Everyone's set loses its slots below the count.
@@ -219,10 +169,8 @@ fn clear_sets(people: usize, slots: usize, sets: &mut [u64])
     requires { (1 ≤ people) × (people ≤ 32) × (slots ≤ 1024) × (16 * people ≤ length sets.old) }
     ensures { sets.new ≡ sets_from people slots (nobodies slots) sets.old }
 {
-    let mut p: usize = 0;
-    while p < people {
+    for p in 0..people {
         slotset::row::clear(people, slots, sets, p);
-        p += 1;
     }
 }
 
@@ -231,11 +179,7 @@ fn clear_first(n: usize, column: &mut [u64])
     requires { n ≤ length column.old }
     ensures { column.new ≡ over (λ _. 0) n column.old }
 {
-    let mut i: usize = 0;
-    while i < n {
-        column[i] = 0;
-        i += 1;
-    }
+    column[..n].fill(0);
 }
 
 // Sets, minutes and totals worked out afresh from owners, a stretch of one owner at a time.
@@ -251,12 +195,14 @@ pub(crate) fn rebuild(
 )
     requires plan_sound { PlanSound (plan people slots starts.now ends.now) }
     requires makes { Makes (plan people slots starts.now ends.now) owners.now (derived sets.old minutes.old totals.old) }
-    ensures { derived sets.new minutes.new totals.new ≡ afresh (plan people slots starts.now ends.now) owners.now (derived sets.old minutes.old totals.old) }
+    ensures { derived sets.new minutes.new totals.new ≡ afresh (plan people slots starts.now ends.now) owners.now
+        (derived sets.old minutes.old totals.old) }
 {
     clear_sets(people, slots, sets);
     clear_first(people, minutes);
     clear_first(2, totals);
     let mut i: usize = 0;
+    // a while: each step jumps to the end of what was found, so no range is walked
     while i < slots {
         let e = stretch_end(slots, owners, i);
         let n = stretch_minutes(starts, ends, i, e);

@@ -3,15 +3,15 @@ ghost use Rattle.std.specs.Prelude.{◌≡◌, [], slice_index};
 ghost use Rattle.paper.specs.Limits.{test};
 ghost use Rattle.paper.specs.Rows.{refusal_of, next};
 ghost use Rattle.owners.specs.Derived.{plan, derived, known_by};
-ghost use Rattle.owners.specs.Entries.{from_slots_row, from_slots, empty_row, emptied, placeless, Ended, owner_row, owner_is, minutes_row, minutes_is};
+ghost use Rattle.owners.specs.Entries.{from_slots_row, from_slots, empty_row, emptied, placeless, Ended};
+ghost use Rattle.owners.specs.Entries.{owner_row, owner_is, minutes_row, minutes_is};
 ghost use Rattle.owners.specs.Entries.{unassigned_row, unassigned_is, uncovered_row, uncovered_is, slots_of_is};
 
 use crate::checks::{check_available, check_known, lent_refusal};
 use crate::derived::{fill_owners, rebuild};
 use crate::scan::{count_nobody, known_by, minutes_at, owner_at, worked_by};
 use paper::Refusal;
-use slots::Minutes;
-use slotset::{Changed, Number, SlotSet};
+use slotset::{Changed, SlotSet};
 
 // What stands against making sets, minutes and totals from owners: 1, 2, 9, 11 or 12.
 fn from_slots_refusal(
@@ -47,8 +47,8 @@ pub fn from_slots(
     minutes: &mut [u64],
     totals: &mut [u64],
 ) -> u8
-    ensures { Ended (from_slots (plan people slots starts.now ends.now) avail.now owners.now (derived sets.old minutes.old totals.old)) (placeless result) owners.now (derived sets.new
-        minutes.new totals.new) [] }
+    ensures { Ended (from_slots (plan people slots starts.now ends.now) avail.now owners.now
+        (derived sets.old minutes.old totals.old)) (placeless result) owners.now (derived sets.new minutes.new totals.new) [] }
 {
     let n = from_slots_refusal(
         people, slots, starts, ends, avail, owners, sets, minutes, totals,
@@ -128,14 +128,14 @@ fn check_owner(before: Refusal, people: usize, owners: &[u8], slot: usize) -> Re
 }
 
 // The owner of a slot, 255 for nobody. Refusals 1, 2, 11.
-pub fn owner_of_slot(people: usize, slots: usize, owners: &[u8], slot: usize) -> Number
+pub fn owner_of_slot(people: usize, slots: usize, owners: &[u8], slot: usize) -> Result<usize, u8>
     ensures { result ≡ owner_is people slots owners.now slot }
 {
     let n = owner_refusal(people, slots, owners, slot).number;
     if n == 0 {
-        return Number::Is(owner_at(owners, slot) as usize);
+        return Ok(owner_at(owners, slot) as usize);
     }
-    Number::Refused(n)
+    Err(n)
 }
 
 // What stands against telling a person's minutes: 1, 2 or 11.
@@ -148,14 +148,14 @@ fn minutes_refusal(people: usize, minutes: &[u64], person: usize) -> Refusal
 }
 
 // A person's minutes. Refusals 1, 2, 11.
-pub fn minutes_of(people: usize, minutes: &[u64], person: usize) -> Minutes
+pub fn minutes_of(people: usize, minutes: &[u64], person: usize) -> Result<u64, u8>
     ensures { result ≡ minutes_is people minutes.now person }
 {
     let n = minutes_refusal(people, minutes, person).number;
     if n == 0 {
-        return Minutes::Is(minutes_at(minutes, person));
+        return Ok(minutes_at(minutes, person));
     }
-    Minutes::Refused(n)
+    Err(n)
 }
 
 // A person's slots, as a set by value. Refusals 1, 2, 11.
@@ -165,10 +165,9 @@ pub fn slots_of(people: usize, slots: usize, sets: &[u64], person: usize) -> Cha
     if paper::slot_count_ok(slots) {
         return slotset::row::load(people, slots, sets, person);
     }
-    let none = [0u64; 16];
     Changed {
         set: SlotSet {
-            words: none,
+            words: [0u64; 16],
             len: 0,
         },
         number: 1,
@@ -186,14 +185,14 @@ fn unassigned_refusal(people: usize, slots: usize, owners: &[u8]) -> Refusal
 }
 
 // How many slots nobody owns. Refusals 1, 2, 11 (unknown owner).
-pub fn unassigned_count(people: usize, slots: usize, owners: &[u8]) -> Number
+pub fn unassigned_count(people: usize, slots: usize, owners: &[u8]) -> Result<usize, u8>
     ensures { result ≡ unassigned_is people slots owners.now }
 {
     let n = unassigned_refusal(people, slots, owners).number;
     if n == 0 {
-        return Number::Is(count_nobody(slots, owners));
+        return Ok(count_nobody(slots, owners));
     }
-    Number::Refused(n)
+    Err(n)
 }
 
 // What stands against telling the minutes that nobody owns: 1, 2, 9 or 11.
@@ -221,12 +220,12 @@ pub fn uncovered_minutes(
     starts: &[u32],
     ends: &[u32],
     owners: &[u8],
-) -> Minutes
+) -> Result<u64, u8>
     ensures { result ≡ uncovered_is (plan people slots starts.now ends.now) owners.now }
 {
     let n = uncovered_refusal(people, slots, starts, ends, owners).number;
     if n == 0 {
-        return Minutes::Is(worked_by(people, slots, starts, ends, owners, 255));
+        return Ok(worked_by(people, slots, starts, ends, owners, 255));
     }
-    Minutes::Refused(n)
+    Err(n)
 }

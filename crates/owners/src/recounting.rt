@@ -13,17 +13,12 @@ use crate::scan::{
     first_unavailable, first_uneven, first_unknown, first_wrong_entry, first_wrong_slot,
 };
 use paper::Refusal;
-use slotset::YesNo;
 
 // Whether an answer is yes.
-fn is_yes(answer: YesNo) -> bool
+fn is_yes(answer: Result<bool, u8>) -> bool
     ensures { result ≡ is_yes answer }
 {
-    match answer {
-        YesNo::Yes => true,
-        YesNo::No => false,
-        YesNo::Refused(_) => false,
-    }
+    matches!(answer, Ok(true))
 }
 
 // Whether everybody's sets are the right ones.
@@ -36,12 +31,14 @@ fn sets_right(people: usize, slots: usize, sets: &[u64], right: &[u64]) -> bool
 
 // The first person whose set is wrong, where somebody's is: by halves, since the sets of the first people are compared word by word.
 fn first_wrong_set(people: usize, slots: usize, sets: &[u64], right: &[u64]) -> usize
-    requires le_people { (1 ≤ people) × (people ≤ 32) × (slots ≤ 1024) × (16 * people ≤ length sets.now) × (16 * people ≤ length right.now) }
+    requires le_people { (1 ≤ people) × (people ≤ 32) × (slots ≤ 1024) × (16 * people ≤ length sets.now)
+        × (16 * people ≤ length right.now) }
     requires slots_value { same_sets sets.now right.now people slots ≡ false }
     ensures { result ≡ first_fail people (same_set slots sets.now right.now) }
 {
     let mut low: usize = 0;
     let mut high = people;
+    // a while: a search by halves, so no range is walked
     while low + 1 < high {
         let middle = low + (high - low) / 2;
         if sets_right(middle, slots, sets, right) {
@@ -160,7 +157,8 @@ pub fn recounted(
     minutes: &[u64],
     totals: &[u64],
 ) -> Refusal
-    ensures { result ≡ refusal_of (recount_row counts room (plan people slots starts.now ends.now) avail.now units begins.now owners.now (derived sets.now minutes.now totals.now)) }
+    ensures { result ≡ refusal_of (recount_row counts room (plan people slots starts.now ends.now) avail.now units begins.now owners.now
+        (derived sets.now minutes.now totals.now)) }
 {
     let f = lent_refusal(
         counts, room, people, slots, starts, ends, avail, owners, sets, minutes, totals,

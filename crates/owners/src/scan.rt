@@ -11,45 +11,30 @@ use slotset::bit::holds;
 pub fn owner_at(owners: &[u8], k: usize) -> u8
     ensures { result ≡ slice_index owners.now k }
 {
-    if k < owners.len() { owners[k] } else { 0 }
+    owners.get(k).copied().unwrap_or(0)
 }
 
 // The minutes of a person; 0 where they aren't lent.
 pub(crate) fn minutes_at(minutes: &[u64], person: usize) -> u64
     ensures { result ≡ slice_index minutes.now person }
 {
-    if person < minutes.len() {
-        minutes[person]
-    } else {
-        0
-    }
+    minutes.get(person).copied().unwrap_or(0)
 }
 
 // Whether an owner is nobody, or a person below the count.
+#[tactic(auto, unfolding(crate::specs::Derived::known_by))]
 pub fn known_by(people: usize, owner: u8) -> bool
     ensures { result ≡ known_by people owner }
 {
-    if owner == paper::NOBODY {
-        return true;
-    }
-    (owner as usize) < people
+    owner == paper::NOBODY || usize::from(owner) < people
 }
 
 // Whether an owner is nobody, or a person who is available for slot k.
+#[tactic(auto, unfolding(crate::specs::Recount::available_for, units::specs::Domains::available))]
 pub fn available_for(avail: &[u64], owner: u8, k: usize) -> bool
     ensures { result ≡ available_for avail.now owner k }
 {
-    if owner == paper::NOBODY {
-        return true;
-    }
-    holds(avail, owner, k)
-}
-
-// The higher of two numbers.
-fn higher(a: u8, b: u8) -> u8
-    ensures { result ≡ max a b }
-{
-    if a < b { b } else { a }
+    owner == paper::NOBODY || holds(avail, owner, k)
 }
 
 // So many people that every owner is known among them: one more than the highest, nobody counting as none.
@@ -58,10 +43,8 @@ fn enough_people(slots: usize, owners: &[u8]) -> u8
     ensures { (k : ℕ) → k < slots → known_by result (slice_index owners.now k) ≡ true }
 {
     let mut most: u8 = 0;
-    let mut k: usize = 0;
-    while k < slots {
-        most = higher(most, std::num::wrapping_add_u8(owners[k], 1));
-        k += 1;
+    for k in 0..slots {
+        most = most.max(owners[k].wrapping_add(1));
     }
     most
 }
@@ -70,21 +53,15 @@ fn enough_people(slots: usize, owners: &[u8]) -> u8
 fn all_known(people: usize, slots: usize, owners: &[u8]) -> bool
     ensures { result ≡ true → all slots (known_at people owners.now) ≡ true }
 {
-    if slots <= owners.len() {
-        return enough_people(slots, owners) as usize <= people;
-    }
-    false
+    slots <= owners.len() && usize::from(enough_people(slots, owners)) <= people
 }
 
 // The first slot with an unknown owner, or the slot count, slot by slot.
 fn find_unknown(people: usize, slots: usize, owners: &[u8]) -> usize
     ensures { result ≡ first_fail slots (known_at people owners.now) }
 {
-    let mut k: usize = 0;
-    while k < slots {
-        if known_by(people, owner_at(owners, k)) {
-            k += 1;
-        } else {
+    for k in 0..slots {
+        if !known_by(people, owner_at(owners, k)) {
             return k;
         }
     }
@@ -105,11 +82,8 @@ pub fn first_unknown(people: usize, slots: usize, owners: &[u8]) -> usize
 pub fn first_unavailable(slots: usize, avail: &[u64], owners: &[u8]) -> usize
     ensures { result ≡ first_fail slots (available_at avail.now owners.now) }
 {
-    let mut k: usize = 0;
-    while k < slots {
-        if available_for(avail, owner_at(owners, k), k) {
-            k += 1;
-        } else {
+    for k in 0..slots {
+        if !available_for(avail, owner_at(owners, k), k) {
             return k;
         }
     }
@@ -123,11 +97,8 @@ fn is_even(slots: usize, units: usize, begins: &[u16], owners: &[u8], unit: usiz
     let a = units::start_of(begins, unit);
     let e = units::unit_end(slots, units, begins, unit);
     let owner = owner_at(owners, a);
-    let mut k = a;
-    while k < e {
-        if owner_at(owners, k) == owner {
-            k += 1;
-        } else {
+    for k in a..e {
+        if owner_at(owners, k) != owner {
             return false;
         }
     }
@@ -138,11 +109,8 @@ fn is_even(slots: usize, units: usize, begins: &[u16], owners: &[u8], unit: usiz
 pub fn first_uneven(slots: usize, units: usize, begins: &[u16], owners: &[u8]) -> usize
     ensures { result ≡ first_fail units (even_at slots units begins.now owners.now) }
 {
-    let mut u: usize = 0;
-    while u < units {
-        if is_even(slots, units, begins, owners, u) {
-            u += 1;
-        } else {
+    for u in 0..units {
+        if !is_even(slots, units, begins, owners, u) {
             return u;
         }
     }
@@ -153,11 +121,7 @@ pub fn first_uneven(slots: usize, units: usize, begins: &[u16], owners: &[u8]) -
 fn same_bit(owner: u8, person: usize, there: bool) -> bool
     ensures { result ≡ same_bit there (owner == person) }
 {
-    if owner as usize == person {
-        there
-    } else {
-        if there { false } else { true }
-    }
+    there == (usize::from(owner) == person)
 }
 
 // The first slot at which a person's set is wrong, or the slot count.
@@ -165,11 +129,8 @@ pub(crate) fn first_wrong_slot(slots: usize, owners: &[u8], sets: &[u64], person
     requires { person < 32 }
     ensures { result ≡ first_fail slots (set_slot_at owners.now sets.now person) }
 {
-    let mut k: usize = 0;
-    while k < slots {
-        if same_bit(owner_at(owners, k), person, holds(sets, person as u8, k)) {
-            k += 1;
-        } else {
+    for k in 0..slots {
+        if !same_bit(owner_at(owners, k), person, holds(sets, person as u8, k)) {
             return k;
         }
     }
@@ -177,13 +138,15 @@ pub(crate) fn first_wrong_slot(slots: usize, owners: &[u8], sets: &[u64], person
 }
 
 // What a slot of n minutes counts for a person.
+#[tactic(auto, unfolding(crate::specs::Derived::portion))]
 fn portion_of(owner: u8, person: usize, n: u32) -> u64
     ensures { result ≡ portion owner person n }
 {
-    if owner as usize == person {
-        return n as u64;
+    if usize::from(owner) == person {
+        u64::from(n)
+    } else {
+        0
     }
-    0
 }
 
 // A person's minutes, worked out from owners.
@@ -200,10 +163,8 @@ pub(crate) fn worked_by(
     ensures { result ≡ worked (plan people slots starts.now ends.now) owners.now person }
 {
     let mut total: u64 = 0;
-    let mut k: usize = 0;
-    while k < slots {
+    for k in 0..slots {
         total += portion_of(owners[k], person, slots::minutes_at(starts, ends, k));
-        k += 1;
     }
     total
 }
@@ -213,11 +174,8 @@ pub(crate) fn first_wrong_entry(n: usize, column: &[u64], right: &[u64]) -> usiz
     requires { (n ≤ length column.now) × (n ≤ length right.now) }
     ensures { result ≡ first_fail n (same_entry column.now right.now) }
 {
-    let mut i: usize = 0;
-    while i < n {
-        if column[i] == right[i] {
-            i += 1;
-        } else {
+    for i in 0..n {
+        if column[i] != right[i] {
             return i;
         }
     }
@@ -229,13 +187,9 @@ pub(crate) fn count_nobody(slots: usize, owners: &[u8]) -> usize
     ensures { result ≡ unassigned slots owners.now }
 {
     let mut n: usize = 0;
-    let mut k: usize = 0;
-    while k < slots {
+    for k in 0..slots {
         if owner_at(owners, k) == paper::NOBODY {
             n += 1;
-            k += 1;
-        } else {
-            k += 1;
         }
     }
     n

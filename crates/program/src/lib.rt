@@ -37,10 +37,7 @@ const TOO_LONG: i32 = 36;
 pub fn within(n: usize, buf: &[u8]) -> usize
     ensures { IsPrefixLen result buf.now }
 {
-    if n <= buf.len() {
-        return n;
-    }
-    buf.len()
+    n.min(buf.len())
 }
 
 // Reads once into what is left of buf from `done` on.
@@ -65,6 +62,7 @@ pub fn read_on<R: Read>(input: &mut R, buf: &mut [u8], from: usize) -> Input
     ensures { result.count ≤ length buf.new }
 {
     let mut done = within(from, buf);
+    // a while: how far a read comes is known only after it, so no range is walked
     while done < buf.len() {
         let step = read_some(input, buf, done);
         let next = step.count;
@@ -126,10 +124,7 @@ pub fn open_file<F: Files>(rt: &F, name: &[u8]) -> io::Result<F::File> {
 
 // Whether the program was called with as many words, its own name aside.
 pub fn has_word(rt: &impl Env, number: usize) -> bool {
-    match rt.arg(number, &mut []) {
-        Err(FillError::NotPresent) => false,
-        _ => true,
-    }
+    !matches!(rt.arg(number, &mut []), Err(FillError::NotPresent))
 }
 
 // Puts the first word at the start of buf; how long it is. A word that buf has no room for is an error.

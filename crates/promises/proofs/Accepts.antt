@@ -9,12 +9,12 @@ use lib.ListN.{length, replicate, length-replicate}
 use Rattle.paper.specs.Bits.{bit_of}
 use Rattle.paper.specs.Count.{all, all_in, sum, count}
 use Rattle.paper.specs.Limits.{people_ok, slot_count_ok, counts_ok, number_of}
-use Rattle.paper.specs.Rows.{unless, refusal_of}
+use Rattle.paper.specs.Rows.{unless, refusal_of, answer_as, answer_refusal}
 use Rattle.slotset.specs.Slots.{slot, has}
 use Rattle.slotset.specs.Answers.{length_row, slot_row, stretch_ok, stretch_row, sets_row, person_row, person_stretch_row, same_sets_row}
-use Rattle.slotset.specs.Answers.{yes_no_as, number_as, changed_as, new_of, put_of, stretch_of, load_of, number_refusal}
+use Rattle.slotset.specs.Answers.{changed_as, new_of, put_of, stretch_of, load_of}
 use Rattle.runs.specs.Listed.{runs_row}
-use Rattle.slots.specs.Lent.{slot_room_ok, slots_ok, slot_ok_at, slot_ok, prev_end, minutes_at, lent_row, slot_minutes_row, minutes_as, demand_is}
+use Rattle.slots.specs.Lent.{slot_room_ok, slots_ok, slot_ok_at, slot_ok, prev_end, minutes_at, lent_row, slot_minutes_row, demand_is}
 use Rattle.slots.specs.Lent.{slot_minutes_is}
 use Rattle.slots.specs.Ranges.{range_count_ok, range_room_ok, ranges_ok, range_ok_at, range_ok}
 use Rattle.slots.specs.Merged.{merged_row, merged_ranges}
@@ -23,7 +23,7 @@ use Rattle.slots.specs.Availability.{availability_row, available_row, is_availab
 use Rattle.slots.specs.Freeze.{freeze_row, freeze_of}
 use Rattle.units.specs.Settings.{settings_ok, boundary_ok}
 use Rattle.units.specs.Units.{units_ok, start_ok, unit_end}
-use Rattle.units.specs.Answers.{written_as, span_as, units_row, unit_slots_row, unit_of_slot_row, unit_count_is, unit_slots_is, unit_of_slot_is}
+use Rattle.units.specs.Answers.{written_as, units_row, unit_slots_row, unit_of_slot_row, unit_count_is, unit_slots_is, unit_of_slot_is}
 use Rattle.units.specs.Starts.{starts_row, rotation_starts_is, unit_starts_is}
 use Rattle.units.specs.Days.{covered_days_is, minutes_per_day_is, target_run_row, target_run_is}
 use Rattle.units.specs.Domains.{available, unfrozen, clear, unit_frozen, unit_frozen_row, unit_frozen_is, slot_domain_row, slot_domain_is}
@@ -59,7 +59,7 @@ no-draws-played = ap (λ (y : state.Outcome). y.refusal.number) (draws-alike no_
 pub each-accepts : EachAccepts
 unfolding number_of refusal_of unless length_row slot_row stretch_ok stretch_row sets_row person_row person_stretch_row same_sets_row runs_row
     changed_as new_of put_of
-    stretch_of load_of yes_no_as number_as minutes_as written_as span_as people_ok slot_count_ok counts_ok all all_in slot_room_ok slots_ok slot_ok_at
+    stretch_of load_of answer_as written_as people_ok slot_count_ok counts_ok all all_in slot_room_ok slots_ok slot_ok_at
     slot_ok
     prev_end range_count_ok range_room_ok ranges_ok range_ok_at range_ok lent_row slot_minutes_row demand_is slot_minutes_is merged_row merged_ranges
     availability_row
@@ -86,7 +86,7 @@ each-accepts = record {
   slot-minutes = refl;
   merged-ranges = refl;
   atomise =
-      ap (λ (x : Atoms). number_refusal x.answer)
+      ap (λ (x : Atoms). answer_refusal x.answer)
       (marked-cases.case-4 (replicate 1024 0) (replicate 1024 0) (enough 1024) (enough 1024));
   availability = refl;
   freeze-before = λ instant. refl;

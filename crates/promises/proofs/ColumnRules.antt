@@ -19,7 +19,7 @@ use Rattle.paper.proofs.Count.{length_over, get_d_over, get_d-over-out, over-rig
 use Rattle.paper.specs.Bits.{bit_of}
 use Rattle.slotset.specs.Slots.{slot}
 use Rattle.slotset.specs.Search.{up, next_with}
-use Rattle.slotset.proofs.Refusals.{yes-no-said}
+use Rattle.slotset.proofs.Refusals.{answer-said}
 use Rattle.columns.specs.Parts.{columns_row, stretch_row, Part, is_frozen, next_change, part_at, no_part, stretch_of, owners_of}
 use Rattle.columns.specs.Parts.{parts_from, all_parts}
 use Rattle.columns.specs.Publishing.{owner_read, publish_of, show_row, show_of}
@@ -60,7 +60,7 @@ columns-refuse = record {
       (columns-first slots p d f (say-below i slots none));
   empty = λ slots p d f i h.
       ap (λ (x : Part). owners_of x p d) (kept (number_of (stretch_row slots p d f i)) no_part (part_at slots f i) h) ∙ empty-owners p d;
-  told = λ slots p d f i. yes-no-said _ _;
+  told = λ slots p d f i. answer-said _ _;
   publish = λ slots p d f. record {
     given = by_first _ (columns_row slots p d f) _ refl refl (tests-give (columns_row slots p d f) refl) (columns-first slots p d f none);
     kept = λ h. kept _ p _ h;

@@ -1,4 +1,5 @@
 -- How empty answers are shut out: each breaks a promise, by a witness. Assumes nothing.
+use Rattle.std.specs.Prelude.{Bool, Option, Some, None, Result, Ok, Err, IsOkAnd, true, false}
 use mathlib.Core.Path.{◌≡◌, refl, sym, ap, ◌∙◌, subst}
 use mathlib.Core.List.{List, [], ◌∷◌}
 use Prim.Native.Nat.{ℕ, ◌+◌, ◌≤◌, ◌<◌}
@@ -9,18 +10,16 @@ use lib.IntN.{ℤ, pos}
 use lib.ListN.{length, get_or, replicate, length-replicate}
 use native.Mathlib.Nat.{le_of_eq}
 use Rattle.paper.specs.Bits.{bit_of}
-use Rattle.paper.proofs.Rows.{kept}
+use Rattle.paper.proofs.Rows.{worked as done, kept}
 use Rattle.paper.specs.Count.{all, all_in, sum, count, over, fill, among}
-use Rattle.slotset.specs.declared.Found.TheVariants.{At, Nothing}
+use Rattle.slotset.specs.declared.Run.{Run}
 use Rattle.slotset.specs.declared.Run.TheVariants as run
-use Rattle.slotset.specs.declared.YesNo.TheVariants.{Yes, No}
-use Rattle.slotset.specs.declared.Number.TheVariants as number
 use Rattle.paper.specs.Limits.{people_ok, slot_count_ok, number_of}
-use Rattle.paper.specs.Rows.{unless}
+use Rattle.paper.specs.Rows.{unless, answer_as, answer_refusal}
 use Rattle.slotset.specs.declared.SlotSet.{SlotSet}
 use Rattle.slotset.specs.Slots.{Bits, slot, with_bit, put_slot, put_slots}
 use Rattle.slotset.specs.Runs.{Around}
-use Rattle.slotset.specs.Answers.{length_row, sets_row, person_row, slots_of, run_as, Holds, changed_as, load_of}
+use Rattle.slotset.specs.Answers.{length_row, sets_row, person_row, slots_of, run_at, run_as, Holds, changed_as, load_of}
 use Rattle.slotset.proofs.Puts.{slot_lt}
 use Rattle.slotset.proofs.Runs.{lookup-is}
 use Rattle.slots.specs.Atomic.{Atoms}
@@ -29,7 +28,6 @@ use Rattle.units.specs.Units.{unit_end}
 use Rattle.units.specs.Domains.{available, able, unfrozen, clear, unit_frozen}
 use Rattle.units.specs.Answers.{Written}
 use Rattle.targets.specs.Outcome as targets
-use Rattle.slots.specs.declared.Minutes.TheVariants as minutes
 use Rattle.rota.specs.Board.{owner_of, unowned}
 use Rattle.rota.specs.Lent.{fits_unit, frozen_unit}
 use Rattle.rota.specs.Moves.{any_of, decided, swapped, reassigned, picked, domain_of}
@@ -37,12 +35,9 @@ use Rattle.rota.specs.Plays.{step, owners_after, draws_of}
 use Rattle.owners.specs.Derived.{Plan, Derived, known_by, portion, worked, held, sets_from, afresh, uncovered, unassigned, total_of}
 use Rattle.owners.specs.Recount.{known_at, available_for, available_at, even_at, set_slot_at, set_at, minutes_ok_at, recounts, total_ok_at}
 use Rattle.owners.specs.Entries as state
-use Rattle.slots.specs.Lent.{minutes_refusal}
 use Rattle.owners.proofs.Entered.{recount-says}
 use Rattle.promises.specs.Entries.{Call, Component, built, no_of, afresh_in, owners_in}
 use Rattle.promises.specs.Marked.{MarkedCases, in_words, Owned, apart, Spare, two_units}
-use Rattle.slotset.specs.Answers.{yes_no_refusal, number_refusal}
-use Rattle.promises.specs.SetRefusals.{found_refusal, run_refusal}
 use Rattle.promises.specs.Rota.{EndsAfresh, FrozenKeep, OwnersAvailable, CoveredStays, AddsUp, SizesRecount, after, first_call}
 use Rattle.promises.specs.Empty.{RefusesByTable, AlwaysRefuses, refuses-next, refuses-prev, refuses-run, refuses-size}
 use Rattle.promises.specs.Empty.{refuses-atomise, refuses-available, refuses-targets, refuses-rotations, refuses-play}
@@ -79,35 +74,35 @@ refuses-by-table c = (rota-refuses.play c).given
 
 module _ (C : Component) (M : MarkedCases C) (T : RefusesByTable C) (S : SizesRecount C) (U : AddsUp C) where
   pub always-refusing-falls : AlwaysRefuses C → ⊥
-  always-refusing-falls (refuses-next f) = f _ _ (ap found_refusal (M.case-1 []).0)
-  always-refusing-falls (refuses-prev f) = f _ _ (ap found_refusal (M.case-2 []).0)
-  always-refusing-falls (refuses-run f) = f _ _ (ap run_refusal (M.case-3 []))
-  always-refusing-falls (refuses-size f) = f _ (ap number_refusal (S still still-accepted 0 (omega arith)))
+  always-refusing-falls (refuses-next f) = f _ _ (ap answer_refusal (M.case-1 []).0)
+  always-refusing-falls (refuses-prev f) = f _ _ (ap answer_refusal (M.case-2 []).0)
+  always-refusing-falls (refuses-run f) = f _ _ (ap answer_refusal (M.case-3 []))
+  always-refusing-falls (refuses-size f) = f _ (ap answer_refusal (S still still-accepted 0 (omega arith)))
   always-refusing-falls (refuses-atomise f) =
-      f _ (ap (λ (x : Atoms). number_refusal x.answer) (M.case-4 (zeros 1024) (zeros 1024) (room 1024) (room 1024)))
-  always-refusing-falls (refuses-available f) = f _ _ _ _ _ (ap yes_no_refusal (M.case-6-available (zeros 16) (room 16)).0)
+      f _ (ap (λ (x : Atoms). answer_refusal x.answer) (M.case-4 (zeros 1024) (zeros 1024) (room 1024) (room 1024)))
+  always-refusing-falls (refuses-available f) = f _ _ _ _ _ (ap answer_refusal (M.case-6-available (zeros 16) (room 16)).0)
   always-refusing-falls (refuses-targets f) =
       f _ _ (ap (λ (y : targets.Outcome). y.number) (M.case-9 (zeros 32) (pos 0 ∷ pos 0 ∷ []) (room 32) (omega arith)))
   always-refusing-falls (refuses-rotations f) =
-      f _ _ _ _ _ (ap (λ (w : Written). number_refusal w.answer)
+      f _ _ _ _ _ (ap (λ (w : Written). answer_refusal w.answer)
       (M.case-11 0 0 0 0 (0 ∷ 0 ∷ 0 ∷ 0 ∷ []) (omega arith) (omega arith) (omega arith) (omega arith) (omega arith)))
   always-refusing-falls (refuses-play f) =
       f still (one-given _ _ _ (T still) (rota-refuses.play still).given
       ∙ ap (λ (y : state.Outcome). y.refusal.number) (accepted-is still still-accepted))
-  always-refusing-falls (refuses-uncovered f) = f _ _ (ap minutes_refusal (U still still-accepted).0)
+  always-refusing-falls (refuses-uncovered f) = f _ _ (ap answer_refusal (U still still-accepted).0)
 
 -- ---- one fixed answer
 
 -- a run that is answered holds the slot
-run-answered : (f : ℕ → ℕ) → Bits f → (n len i first last : ℕ) → run_as n f len i ≡ run.Span first last → (first ≤ i) × (i ≤ last)
-unfolding run_as
+run-answered : (f : ℕ → ℕ) → Bits f → (n len i first last : ℕ) → run_as n f len i ≡ Ok (run.Span first last) → (first ≤ i) × (i ≤ last)
+unfolding answer_as
 run-answered f bits n len i first last e = elim (ℕ_discrete n 0) [
   | yes z ↦
       let x : Around 1 f len i first last =
-      subst (Holds f len i) (ap (λ (m : ℕ). run_as m f len i) (sym z) ∙ e) (lookup-is f len i bits) in
+      subst (λ (r : Result Run ℕ). IsOkAnd r (Holds f len i)) (sym (done n (Err n) (Ok (run_at f len i)) z) ∙ e) (lookup-is f len i bits) in
       (x.from, x.to)
   | no m ↦
-      let q : run.Refused n ≡ run.Span first last = sym (kept n (run.Refused n) _ m) ∙ e in
+      let q : ◌≡◌ {A = Result Run ℕ} (Err n) (Ok (run.Span first last)) = sym (kept n (Err n) _ m) ∙ e in
       let z : ◌≡◌ {A = ℕ} 0 1 = cc in
       absurd (omega arith)
 ]
@@ -117,23 +112,23 @@ runs-hold s i first last e = run-answered (slots_of s) (slot_lt s.words 0) (numb
 
 pub fixed-answer-falls : (C : Component) → FixedAnswer C → MarkedCases C → RunsHold C → ⊥
 fixed-answer-falls C (fixed-next f) M H =
-    let q : At 63 ≡ Nothing = sym (M.case-1 []).0 ∙ f _ _ _ _ ∙ (M.case-1 []).1 in
+    let q : ◌≡◌ {A = Result (Option ℕ) ℕ} (Ok (Some 63)) (Ok None) = sym (M.case-1 []).0 ∙ f _ _ _ _ ∙ (M.case-1 []).1 in
     let z : ◌≡◌ {A = ℕ} 0 1 = cc in omega arith
 fixed-answer-falls C (fixed-prev f) M H =
-    let q : At 64 ≡ At 0 = sym (M.case-2 []).0 ∙ f _ _ _ _ ∙ (M.case-2 []).1 in
+    let q : ◌≡◌ {A = Result (Option ℕ) ℕ} (Ok (Some 64)) (Ok (Some 0)) = sym (M.case-2 []).0 ∙ f _ _ _ _ ∙ (M.case-2 []).1 in
     let z : ◌≡◌ {A = ℕ} 64 0 = cc in omega arith
 fixed-answer-falls C (fixed-run f) M H =
     let s = in_words 1 [] in
     omega (arith, (H s 0 60 69 (f s _ 0 64 ∙ M.case-3 [])).0)
 fixed-answer-falls C (fixed-atomise f) M H =
     let l = zeros 1024 in
-    let q : number.Is 2 ≡ number.Is 1 =
+    let q : ◌≡◌ {A = Result ℕ ℕ} (Ok 2) (Ok 1) =
     sym (ap (λ (x : Atoms). x.answer) (M.case-4 l l (room 1024) (room 1024))) ∙ ap (λ (x : Atoms). x.answer) (f _ _)
     ∙ ap (λ (x : Atoms). x.answer) (M.case-5 l l (room 1024) (room 1024)) in
     let z : ◌≡◌ {A = ℕ} 2 1 = cc in omega arith
 fixed-answer-falls C (fixed-available f) M H =
     let x = M.case-6-available (zeros 16) (room 16) in
-    let q : No ≡ Yes = sym x.0 ∙ f _ _ _ _ _ _ _ ∙ x.1 in
+    let q : ◌≡◌ {A = Result Bool ℕ} (Ok false) (Ok true) = sym x.0 ∙ f _ _ _ _ _ _ _ ∙ x.1 in
     let z : ◌≡◌ {A = ℕ} 0 1 = cc in omega arith
 fixed-answer-falls C (fixed-targets f) M H =
     let out = pos 0 ∷ pos 0 ∷ pos 0 ∷ pos 0 ∷ [] in
@@ -170,7 +165,7 @@ doing-nothing-keeps C f =
       λ tells c e.
           let t = answered-total c e c.owners c.derived (asks c e).right.on.room.owners-room (accepted-says c e).recount in (
             tells c.plan (C.play c).owners ∙ ap (built.uncovered c.plan) (f.owners c) ∙ t.0
-                ∙ ap (λ (D : Derived). minutes.Is (get_or D.totals 0 0)) (sym (f.derived c)),
+                ∙ ap (λ (D : Derived). Ok (get_or D.totals 0 0)) (sym (f.derived c)),
             ap (λ (D : Derived). sum c.plan.people (λ p. get_or D.minutes p 0) + get_or D.totals 0 0) (f.derived c) ∙ t.1,
           ),
     )
@@ -265,13 +260,13 @@ module _ (C : Component) (g : EndsAfresh C) where
       ap (λ (y : state.Outcome). (set_of y 0).len) q ∙ afresh-lengths ∙ sym (ap (λ (y : state.Outcome). (set_of y 1).len) q)
 
   count_of : SizesRecount C → (p n : ℕ) → p < 2 → count 2 (λ k. eqb (get_or (0 ∷ 0 ∷ []) k 0) p) ≡ n
-      → C.size (set_of (C.play c) p) ≡ number.Is n
+      → C.size (set_of (C.play c) p) ≡ Ok n
   count_of f p n h e =
-      f c rest-accepted.0 p h ∙ ap (λ (o : List ℕ). number.Is (count 2 (λ k. eqb (get_or o k 0) p))) owners-rest ∙ ap number.Is e
+      f c rest-accepted.0 p h ∙ ap (λ (o : List ℕ). Ok (count 2 (λ k. eqb (get_or o k 0) p))) owners-rest ∙ ap Ok e
 
   pub invented-count-falls : InventedCount C → SizesRecount C → ⊥
   invented-count-falls i f =
-      let q : number.Is 2 ≡ number.Is 0 =
+      let q : ◌≡◌ {A = Result ℕ ℕ} (Ok 2) (Ok 0) =
       sym (count_of f 0 2 (omega arith) counts-differ.0) ∙ i _ _ same-lengths ∙ count_of f 1 0 (omega arith) counts-differ.1 in
       let z : ◌≡◌ {A = ℕ} 2 0 = cc in
       omega arith
@@ -298,7 +293,7 @@ module _ (C : Component) (g : EndsAfresh C) where
       let b = f (at_rest half) rest-accepted.1 in
       let u = get_or (C.play (at_rest apart)).derived.totals 0 0 in
       let v = get_or (C.play (at_rest half)).derived.totals 0 0 in
-      let q : minutes.Is u ≡ minutes.Is v = sym a.0 ∙ i _ _ _ ∙ b.0 in
+      let q : ◌≡◌ {A = Result ℕ ℕ} (Ok u) (Ok v) = sym a.0 ∙ i _ _ _ ∙ b.0 in
       let z : u ≡ v = cc in
       let s : 120 + u ≡ 120 =
       ap (λ (n : ℕ). n + u) (sym (ap minutes-in (g (at_rest apart) still-accepted) ∙ covered-sum)) ∙ a.1 ∙ both-hours in

@@ -9,11 +9,11 @@ use native.Mathlib.Omega.{arith}
 use lib.ListN.{length, get_or, set, length-append}
 use Rattle.paper.specs.Count.{over}
 use Rattle.paper.specs.Limits.{number_of}
-use Rattle.paper.specs.Rows.{unless}
+use Rattle.paper.specs.Rows.{unless, answer_as}
 use Rattle.paper.proofs.Count.{get_d_over}
 use Rattle.paper.proofs.Rows.{worked, kept}
 use Rattle.slotset.specs.Runs.{Ends, ends_of_runs}
-use Rattle.slotset.specs.Answers.{row_slots, number_as}
+use Rattle.slotset.specs.Answers.{row_slots}
 use Rattle.slotset.specs.Lists as lists
 use Rattle.slotset.proofs.Columns.{every-says, runs-few}
 use Rattle.runs.specs.Listed as listed
@@ -56,7 +56,7 @@ every-few ws len (suc p) =
     )
 
 pub every-run-by-rule : EveryRunByRule
-unfolding lists.every_run number_as unless
+unfolding lists.every_run answer_as unless
 every-run-by-rule = record {
   refused = λ ws people len cs fs ls h. (kept _ cs _ h, kept _ fs _ h, kept _ ls _ h);
   listed = λ ws people len cs fs ls e.
@@ -64,7 +64,7 @@ every-run-by-rule = record {
       let l = lists.every_run ws len people in
       let s = every-says ws people len (length cs) (length fs) (length ls) e in
       let few = every-few ws len people in (
-        ap (λ (k : ℕ). number_as k (length l)) e,
+        ap (λ (k : ℕ). answer_as k (length l)) e,
         λ p h.
             ap (λ (c : List ℕ). get_or c p 0) (worked n cs (over (λ q. length (lists.person_runs ws len q)) people cs) e)
             ∙ get_d_over (λ q. length (lists.person_runs ws len q)) people cs p h (omega (arith, s.0.1.1)),

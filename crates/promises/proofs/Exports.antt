@@ -1,6 +1,7 @@
 -- What a C caller reads is what was meant. Assumes nothing.
+use Rattle.std.specs.Prelude.{Ok, Err, Option, Some, None, Result}
 use mathlib.Core.Path.{◌≡◌, refl, ap, ◌∙◌}
-use mathlib.Core.Bool.{Bool, false, cond}
+use mathlib.Core.Bool.{Bool, true, false, cond}
 use mathlib.Core.List.{List, [], ◌∷◌}
 use mathlib.Core.Logic.{⊎_elim}
 use Prim.Native.Nat.{ℕ, zero, suc, ◌+◌, ◌-◌, ◌*◌, ◌≤◌, ◌<◌}
@@ -9,39 +10,31 @@ use borrow.Author.Tests.{ne_eqb, eqb-true, eqb-false, leb-true, lt-ltb, le-ltb, 
 use lib.Dec.{eqb, ltb}
 use lib.ListN.{length, get_or, length-append}
 use Rattle.paper.specs.Limits.{nobody, number_of}
-use Rattle.paper.specs.Rows.{unless}
+use Rattle.paper.specs.Rows.{unless, answer_as, answer_refusal}
 use Rattle.paper.specs.Count.{sum, count, among}
 use Rattle.paper.proofs.Logic.{by_cond, slot-count-says, people-says}
 use Rattle.paper.proofs.Count.{among-le}
 use Rattle.paper.proofs.Rows.{passed}
-use Rattle.slotset.specs.declared.Found.{Found}
-use Rattle.slotset.specs.declared.Found.TheVariants as found
-use Rattle.slotset.specs.declared.YesNo.TheVariants as yes_no
-use Rattle.slotset.specs.declared.Number.TheVariants as number
 use Rattle.slotset.specs.declared.Run.{Run}
 use Rattle.slotset.specs.declared.Run.TheVariants as run
 use Rattle.slotset.specs.declared.NextRun.{NextRun}
-use Rattle.slotset.specs.declared.NextRun.TheVariants as next_run
 use Rattle.slotset.specs.declared.NextMember.{NextMember}
-use Rattle.slotset.specs.declared.NextMember.TheVariants as next_member
 use Rattle.slotset.specs.Slots.{size}
 use Rattle.slotset.specs.Search.{next_with, last_below, next_set, First, Last}
 use Rattle.slotset.specs.Runs.{first_around, last_around}
-use Rattle.slotset.specs.Answers.{sets_row, person_row, row_slots, found_as, yes_no_as, number_as, run_as, stretch_as, run_step, next_run_as, member_step}
+use Rattle.slotset.specs.Answers.{sets_row, person_row, row_slots, run_at, run_as, stretch_as, run_step, next_run_as, member_step}
 use Rattle.slotset.specs.Answers.{next_member_as}
 use Rattle.slotset.proofs.Meaning.{next-is, last-is}
 use Rattle.slotset.proofs.Members.{size-members}
 use Rattle.slotset.proofs.Puts.{slot_lt}
-use Rattle.slots.specs.declared.Minutes.TheVariants as minutes
-use Rattle.slots.specs.Lent.{minutes_as, minutes_refusal}
 use Rattle.slots.specs.Ranges.{Range, Ranges, range_count_ok, range_at}
 use Rattle.slots.specs.Merged.{Columns, before, joined, merge_in, merge_all, ranges_to, merged_of, merged_row, merged_ranges}
 use Rattle.slots.specs.Atomic.{Base, base_row, atomise_row, atomise_of, starts_of_atoms}
 use Rattle.slots.specs.Freeze.{freeze_row, freeze_of, ended_by, ends_by}
 use Rattle.units.specs.declared.Settings.{Settings}
-use Rattle.units.specs.declared.UnitSlots.TheVariants as unit_slots
+use Rattle.units.specs.declared.UnitSlots.{UnitSlots}
 use Rattle.units.specs.Units.{unit_start, unit_end, unit_of}
-use Rattle.units.specs.Answers.{written_as, span_as, span_refusal, units_row, unit_of_slot_row, unit_of_slot_is}
+use Rattle.units.specs.Answers.{written_as, units_row, unit_of_slot_row, unit_of_slot_is}
 use Rattle.units.specs.Starts.{rotation_begins, unit_begins, rotation_starts, unit_starts, starts_row, rotation_starts_is, unit_starts_is}
 use Rattle.units.specs.Domains.{available, able, domain, slot_domain, unit_domain, slot_domain_row, slot_domain_is, unit_domain_row, unit_domain_is}
 use Rattle.units.proofs.Units.{units-within, unit-of-in}
@@ -65,68 +58,66 @@ above n = le-ltb (65536 + n) 65536 (omega arith)
 rest : (n : ℕ) → 65536 + n - 65536 ≡ n
 rest n = omega arith
 
-read_is : (k : ℕ) → k < 65536 → Read (number.Is k)
-read_is k h = ap (λ (b : Bool). cond b (number.Is k) (number.Refused (k - 65536))) (lt-ltb k 65536 h)
+read_is : (k : ℕ) → k < 65536 → Read (Ok k)
+read_is k h = ap (λ (b : Bool). cond b (Ok k) (Err (k - 65536))) (lt-ltb k 65536 h)
 
-read-refusal : (n : ℕ) → Read (number.Refused n)
+read-refusal : (n : ℕ) → Read (Err n)
 read-refusal n =
-    ap (λ (b : Bool). cond b (number.Is (65536 + n)) (number.Refused (65536 + n - 65536))) (above n) ∙ ap number.Refused (rest n)
+    ap (λ (b : Bool). cond b (Ok (65536 + n)) (Err (65536 + n - 65536))) (above n) ∙ ap Err (rest n)
 
-read_number_lem : (n k : ℕ) → (n ≡ 0 → k < 65536) → Read (number_as n k)
-unfolding number_as unless
-read_number_lem n k h = by_cond (eqb n 0) (number.Is k) (number.Refused n) Read (λ t. read_is k (h (eqb-true n 0 t))) (λ f. read-refusal n)
+read_number_lem : (n k : ℕ) → (n ≡ 0 → k < 65536) → Read (answer_as n k)
+unfolding answer_as unless
+read_number_lem n k h = by_cond (eqb n 0) (Ok k) (Err n) Read (λ t. read_is k (h (eqb-true n 0 t))) (λ f. read-refusal n)
 
 -- a number that is not 0 added to 65,536 is not 65,536
 not-nothing : (n : ℕ) → eqb n 0 ≡ false → eqb (65536 + n) 65536 ≡ false
 not-nothing n f = ne_eqb (65536 + n) 65536 (λ z. eqb-false n 0 f (omega (arith, z)))
 
-abbrev Small : Found → Type 0
-Small (found.At i) = i < 65536
-Small found.Nothing = Unit
-Small (found.Refused n) = ⊥
+abbrev Small : Option ℕ → Type 0
+Small (Some i) = i < 65536
+Small None = Unit
 
-read_small : (x : Found) → Small x → read_found (found_number x) ≡ x
-read_small (found.At i) h =
-    ap (λ (b : Bool). cond b (found.At i) (cond (eqb i 65536) found.Nothing (found.Refused (i - 65536)))) (lt-ltb i 65536 h)
-read_small found.Nothing h = refl
-read_small (found.Refused n) h = absurd h
+read_small : (x : Option ℕ) → Small x → read_found (found_number (Ok x)) ≡ Ok x
+read_small (Some i) h = ap (λ (b : Bool). cond b (Ok (Some i)) (cond (eqb i 65536) (Ok None) (Err (i - 65536)))) (lt-ltb i 65536 h)
+read_small None h = refl
 
-found-refused : (n : ℕ) → eqb n 0 ≡ false → read_found (65536 + n) ≡ found.Refused n
+found-refused : (n : ℕ) → eqb n 0 ≡ false → read_found (65536 + n) ≡ Err n
 found-refused n f =
-    ap (λ (b : Bool). cond b (found.At (65536 + n)) (cond (eqb (65536 + n) 65536) found.Nothing (found.Refused (65536 + n - 65536))))
+    ap (λ (b : Bool). cond b (Ok (Some (65536 + n))) (cond (eqb (65536 + n) 65536) (Ok None) (Err (65536 + n - 65536))))
     (above n)
-    ∙ ap (λ (b : Bool). cond b found.Nothing (found.Refused (65536 + n - 65536))) (not-nothing n f) ∙ ap found.Refused (rest n)
+    ∙ ap (λ (b : Bool). cond b (Ok None) (Err (65536 + n - 65536))) (not-nothing n f) ∙ ap Err (rest n)
 
-read_found_lem : (n : ℕ) (x : Found) → (n ≡ 0 → Small x) → read_found (found_number (found_as n x)) ≡ found_as n x
-unfolding found_as unless
+read_found_lem : (n : ℕ) (x : Option ℕ) → (n ≡ 0 → Small x) → read_found (found_number (answer_as n x)) ≡ answer_as n x
+unfolding answer_as unless
 read_found_lem n x h =
-    by_cond (eqb n 0) x (found.Refused n) (λ y. read_found (found_number y) ≡ y) (λ t. read_small x (h (eqb-true n 0 t)))
+    by_cond (eqb n 0) (Ok x) (Err n) (λ y. read_found (found_number y) ≡ y) (λ t. read_small x (h (eqb-true n 0 t)))
     (λ f. found-refused n f)
 
-first_small : (v : ℕ) (f : ℕ → ℕ) (len from : ℕ) (x : Found) → First v f len from x → len ≤ 1024 → Small x
-first_small v f len from (found.At i) h l = omega (arith, h.1, l)
-first_small v f len from found.Nothing h l = tt
-first_small v f len from (found.Refused n) h l = absurd h
+first_small : (v : ℕ) (f : ℕ → ℕ) (len from : ℕ) (x : Option ℕ) → First v f len from x → len ≤ 1024 → Small x
+first_small v f len from (Some i) h l = omega (arith, h.1, l)
+first_small v f len from None h l = tt
 
-last-small : (v : ℕ) (f : ℕ → ℕ) (len end : ℕ) (x : Found) → Last v f len end x → len ≤ 1024 → Small x
-last-small v f len end (found.At i) h l = omega (arith, h.1, l)
-last-small v f len end found.Nothing h l = tt
-last-small v f len end (found.Refused n) h l = absurd h
+last-small : (v : ℕ) (f : ℕ → ℕ) (len end : ℕ) (x : Option ℕ) → Last v f len end x → len ≤ 1024 → Small x
+last-small v f len end (Some i) h l = omega (arith, h.1, l)
+last-small v f len end None h l = tt
 
 row-short : (ws : List ℕ) (people person len : ℕ) → number_of (person_row ws people person len) ≡ 0 → len ≤ 1024
 unfolding person_row sets_row
 row-short ws people person len e = leb-true len 1024 (passed (person_row ws people person len) refl e 1)
 
-yes-no-refused : (n : ℕ) → read_told (65536 + n) ≡ yes_no.Refused n
+yes-no-refused : (n : ℕ) → read_told (65536 + n) ≡ Err n
 yes-no-refused n =
-    ap (λ (b : Bool). cond b (cond (eqb (65536 + n) 1) yes_no.Yes yes_no.No) (yes_no.Refused (65536 + n - 65536))) (above n)
-    ∙ ap yes_no.Refused (rest n)
+    ap (λ (b : Bool). cond b (Ok (eqb (65536 + n) 1)) (Err (65536 + n - 65536))) (above n)
+    ∙ ap Err (rest n)
 
-read-answered : (n : ℕ) (b : Bool) → read_told (yes_no_number (yes_no_as n b)) ≡ yes_no_as n b
-unfolding yes_no_as unless
+told-back : (b : Bool) → read_told (yes_no_number (Ok b)) ≡ Ok b
+told-back true = refl
+told-back false = refl
+
+read-answered : (n : ℕ) (b : Bool) → read_told (yes_no_number (answer_as n b)) ≡ answer_as n b
+unfolding answer_as unless
 read-answered n b =
-    by_cond (eqb n 0) (cond b yes_no.Yes yes_no.No) (yes_no.Refused n) (λ y. read_told (yes_no_number y) ≡ y)
-    (λ t. by_cond b yes_no.Yes yes_no.No (λ y. read_told (yes_no_number y) ≡ y) (λ e. refl) (λ e. refl)) (λ f. yes-no-refused n)
+    by_cond (eqb n 0) (Ok b) (Err n) (λ y. read_told (yes_no_number y) ≡ y) (λ t. told-back b) (λ f. yes-no-refused n)
 
 -- ---- with what stands beside them
 
@@ -142,62 +133,59 @@ refused-way {A} n x y refused f =
 
 read-run : (n : ℕ) (f : ℕ → ℕ) (len i was was' : ℕ)
     → let x = run_as n f len i in read_run (run_number x) (run_first was x) (run_last was' x) ≡ x
-unfolding run_as stretch_as unless
+unfolding answer_as run_at stretch_as unless
 read-run n f len i was was' =
-    let Reads : Run → Type 0 = λ x. read_run (run_number x) (run_first was x) (run_last was' x) ≡ x in
+    let Reads : Result Run ℕ → Type 0 = λ x. read_run (run_number x) (run_first was x) (run_last was' x) ≡ x in
     let v = f i in
     let a = first_around v f len i in
     let b = last_around v f len i in
     let held = cond (eqb v 1) (run.Span a b) (run.Hole a b) in
-    by_cond (eqb n 0) (cond (ltb i len) held run.Outside) (run.Refused n) Reads
-    (λ t. by_cond (ltb i len) held run.Outside Reads
-    (λ e. by_cond (eqb v 1) (run.Span a b) (run.Hole a b) Reads (λ p. refl) (λ p. refl)) (λ e. refl))
+    by_cond (eqb n 0) (Ok (cond (ltb i len) held run.Outside)) (Err n) Reads
+    (λ t. by_cond (ltb i len) held run.Outside (λ x. Reads (Ok x))
+    (λ e. by_cond (eqb v 1) (run.Span a b) (run.Hole a b) (λ x. Reads (Ok x)) (λ p. refl) (λ p. refl)) (λ e. refl))
     (λ g.
-    ap (λ (c : Bool). cond c (run.Span was was') (cond (eqb (65536 + n) 1) (run.Hole was was')
-    (cond (eqb (65536 + n) 65536) run.Outside (run.Refused (65536 + n - 65536))))) (zero-refused n)
-    ∙ ap (λ (c : Bool). cond c (run.Hole was was') (cond (eqb (65536 + n) 65536) run.Outside (run.Refused (65536 + n - 65536))))
+    ap (λ (c : Bool). cond c (Ok (run.Span was was')) (cond (eqb (65536 + n) 1) (Ok (run.Hole was was'))
+    (cond (eqb (65536 + n) 65536) (Ok run.Outside) (Err (65536 + n - 65536))))) (zero-refused n)
+    ∙ ap (λ (c : Bool). cond c (Ok (run.Hole was was')) (cond (eqb (65536 + n) 65536) (Ok run.Outside) (Err (65536 + n - 65536))))
     (ne_eqb (65536 + n) 1 (λ z. omega (arith, z)))
-    ∙ ap (λ (c : Bool). cond c run.Outside (run.Refused (65536 + n - 65536))) (not-nothing n g) ∙ ap run.Refused (rest n))
+    ∙ ap (λ (c : Bool). cond c (Ok run.Outside) (Err (65536 + n - 65536))) (not-nothing n g) ∙ ap Err (rest n))
 
-found_none : (f : ℕ → ℕ) (len at : ℕ) (x : Found) → First 1 f len at x → (X : Found → Type 0) → ((i : ℕ) → X (found.At i)) → X found.Nothing
-    → X x
-found_none f len at (found.At i) h X a b = a i
-found_none f len at found.Nothing h X a b = b
-found_none f len at (found.Refused n) h X a b = absurd h
+by-found : (x : Option ℕ) → (X : Option ℕ → Type 0) → ((i : ℕ) → X (Some i)) → X None → X x
+by-found (Some i) X a b = a i
+by-found None X a b = b
 
 read-next-run : (n : ℕ) (f : ℕ → ℕ) (len at was was' was'' : ℕ)
     → let x = next_run_as n f len at in
     read_next_run (next_run_number x) (next_run_first was x) (next_run_last was' x) (next_run_cursor was'' x) ≡ x
-unfolding next_run_as unless
+unfolding answer_as unless
 read-next-run n f len at was was' was'' =
-    let Reads : NextRun → Type 0 = λ x.
+    let Reads : Result (Option NextRun) ℕ → Type 0 = λ x.
     read_next_run (next_run_number x) (next_run_first was x) (next_run_last was' x) (next_run_cursor was'' x) ≡ x in
-    by_cond (eqb n 0) (run_step f len (next_set f len at)) (next_run.Refused n) Reads
-    (λ t. found_none f len at (next_set f len at) (next-is 1 f len at) (λ y. Reads (run_step f len y)) (λ i. refl) refl)
-    (λ g. refused-way n (next_run.Span was was' (record { at = was'' })) next_run.Done next_run.Refused g)
+    by_cond (eqb n 0) (Ok (run_step f len (next_set f len at))) (Err n) Reads
+    (λ t. by-found (next_set f len at) (λ y. Reads (Ok (run_step f len y))) (λ i. refl) refl)
+    (λ g. refused-way n (Ok (Some (record { first = was; last = was'; next = record { at = was'' } }))) (Ok None) Err g)
 
 read-member : (n : ℕ) (f : ℕ → ℕ) (len at was was' : ℕ)
     → let x = next_member_as n f len at in read_member (member_number x) (member_at was x) (member_cursor was' x) ≡ x
-unfolding next_member_as unless
+unfolding answer_as unless
 read-member n f len at was was' =
-    let Reads : NextMember → Type 0 = λ x. read_member (member_number x) (member_at was x) (member_cursor was' x) ≡ x in
-    by_cond (eqb n 0) (member_step (next_set f len at)) (next_member.Refused n) Reads
-    (λ t. found_none f len at (next_set f len at) (next-is 1 f len at) (λ y. Reads (member_step y)) (λ i. refl) refl)
-    (λ g. refused-way n (next_member.Slot was (record { at = was' })) next_member.Done next_member.Refused g)
+    let Reads : Result (Option NextMember) ℕ → Type 0 = λ x. read_member (member_number x) (member_at was x) (member_cursor was' x) ≡ x in
+    by_cond (eqb n 0) (Ok (member_step (next_set f len at))) (Err n) Reads
+    (λ t. by-found (next_set f len at) (λ y. Reads (Ok (member_step y))) (λ i. refl) refl)
+    (λ g. refused-way n (Ok (Some (record { at = was; next = record { at = was' } }))) (Ok None) Err g)
 
-read-minutes : (n m was : ℕ) → read_minutes (minutes_refusal (minutes_as n m)) (minutes_written was (minutes_as n m)) ≡ minutes_as n m
-unfolding minutes_as
+read-minutes : (n m was : ℕ) → read_minutes (answer_refusal (answer_as n m)) (minutes_written was (answer_as n m)) ≡ answer_as n m
+unfolding answer_as unless
 read-minutes n m was =
-    by_cond (eqb n 0) (minutes.Is m) (minutes.Refused n) (λ x. read_minutes (minutes_refusal x) (minutes_written was x) ≡ x) (λ t. refl)
-    (λ f. ap (λ (b : Bool). cond b (minutes.Is was) (minutes.Refused n)) f)
+    by_cond (eqb n 0) (Ok m) (Err n) (λ x. read_minutes (answer_refusal x) (minutes_written was x) ≡ x) (λ t. refl)
+    (λ f. ap (λ (b : Bool). cond b (Ok was) (Err n)) f)
 
-read-span : (n a e was was' : ℕ)
-    → read_span (span_refusal (span_as n a e)) (span_from was (span_as n a e)) (span_to was' (span_as n a e)) ≡ span_as n a e
-unfolding span_as unless
-read-span n a e was was' =
-    by_cond (eqb n 0) (unit_slots.Span a e) (unit_slots.Refused n)
-    (λ x. read_span (span_refusal x) (span_from was x) (span_to was' x) ≡ x) (λ t. refl)
-    (λ f. ap (λ (b : Bool). cond b (unit_slots.Span was was') (unit_slots.Refused n)) f)
+read-span : (n : ℕ) (s : UnitSlots) (was was' : ℕ)
+    → let x = answer_as n s in read_span (answer_refusal x) (span_from was x) (span_to was' x) ≡ x
+unfolding answer_as unless
+read-span n s was was' =
+    by_cond (eqb n 0) (Ok s) (Err n) (λ x. read_span (answer_refusal x) (span_from was x) (span_to was' x) ≡ x) (λ t. refl)
+    (λ f. ap {B = Result UnitSlots ℕ} (λ (b : Bool). cond b (Ok (record { from = was; to = was' })) (Err n)) f)
 
 -- ---- counts and indexes are small
 

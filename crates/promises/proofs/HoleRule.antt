@@ -1,15 +1,17 @@
 -- A set is its runs and its holes. Assumes nothing.
+use Rattle.std.specs.Prelude.{Ok}
 use mathlib.Core.Path.{◌≡◌, refl, sym, ap, ap₂, ◌∙◌}
 use mathlib.Core.List.{List, [], ◌∷◌, ◌++◌}
 use mathlib.Core.Logic.{⊎_elim}
 use Prim.Native.Nat.{ℕ, zero, suc, ◌+◌, ◌-◌, ◌≤◌, ◌<◌}
 use native.Mathlib.Omega.{arith}
 use Rattle.paper.proofs.Logic.{lt-or-ge}
+use Rattle.paper.specs.Rows.{unless, answer_as}
 use Rattle.slotset.specs.declared.Run.{Run}
 use Rattle.slotset.specs.declared.Run.TheVariants as run
 use Rattle.slotset.specs.Slots.{Bits}
 use Rattle.slotset.specs.Runs.{Around, Ends, AreRuns, ends_of_runs}
-use Rattle.slotset.specs.Answers.{run_as, Holds}
+use Rattle.slotset.specs.Answers.{run_at, Holds}
 use Rattle.slotset.proofs.Runs.{lookup-is, runs-are, runs-unique}
 use Rattle.promises.specs.HoleRule.{then_behind, stretches, all_stretches, slots_from, slots_in, runs_in, holes_in, unset, RunsAndHoles}
 
@@ -92,7 +94,7 @@ module _ (f : ℕ → ℕ) (bits : Bits f) (len : ℕ) where
         ∙ sym (slots-join (b + 1 - at) (len - (b + 1)) at) ∙ ap (slots_from at) t
 
   tile : (n at : ℕ) (r : Run) → Holds f len at r → Begins at → len < suc n + at + 1
-      → ((k : ℕ) → Begins k → len < n + k + 1 → Tiles k (stretches n f len k)) → Tiles at (then_behind r (stretches n f len))
+      → ((k : ℕ) → Begins k → len < n + k + 1 → Tiles k (stretches n f len k)) → Tiles at (then_behind (Ok r) (stretches n f len))
   tile n at (run.Span a b) x begins h more =
       let e = from-here 1 at a b x begins in
       let l = stretches n f len (b + 1) in
@@ -120,17 +122,16 @@ module _ (f : ℕ → ℕ) (bits : Bits f) (len : ℕ) where
         λ k p q z. let s : ⊥ = omega arith in s,
         λ k p q z. let s : ⊥ = omega arith in s,
       )
-  tile n at (run.Refused k) x begins h more = absurd x
 
   tiles : (n at : ℕ) → Begins at → len < n + at + 1 → Tiles at (stretches n f len at)
-  unfolding stretches
+  unfolding stretches answer_as unless
   tiles zero at begins h =
       let e : 0 ≡ len - at = omega arith in (
         sym (slots-none at) ∙ ap (slots_from at) e,
         λ k p q z. let s : ⊥ = omega arith in s,
         λ k p q z. let s : ⊥ = omega arith in s,
       )
-  tiles (suc n) at begins h = tile n at (run_as 0 f len at) (lookup-is f len at bits) begins h (tiles n)
+  tiles (suc n) at begins h = tile n at (run_at f len at) (lookup-is f len at bits) begins h (tiles n)
 
   pub runs-and-holes : RunsAndHoles f len
   runs-and-holes =

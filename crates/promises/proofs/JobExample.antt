@@ -12,12 +12,12 @@ use lib.IntN.{ℤ, pos}
 use lib.ListN.{length, get_or, drop, replicate, set, length-replicate, get_or-eq_default}
 use Rattle.paper.specs.Limits.{people_ok, slot_count_ok, counts_ok, Test, number_of}
 use Rattle.paper.specs.Bits.{bit_of}
-use Rattle.paper.specs.Rows.{unless, accepted as no-refusal}
+use Rattle.paper.specs.Rows.{unless, accepted as no-refusal, answer_as}
 use Rattle.paper.specs.Count.{all, all_in, some, sum, count, among, over, fill, onto}
 use Rattle.paper.proofs.Logic.{both, four, below_suc, lt-or-ge}
 use Rattle.paper.proofs.Count.{all-each}
 use Rattle.slotset.specs.Slots.{slot, with_bit, put_slot, put_slots}
-use Rattle.slotset.specs.Answers.{number_as, row_slots}
+use Rattle.slotset.specs.Answers.{row_slots}
 use Rattle.slots.specs.Lent.{slot_ok, prev_end, slot_ok_at, slot_room_ok, slots_ok, minutes_at, demand_of}
 use Rattle.slots.specs.Ranges.{ranges, range_count_ok, range_room_ok, range_ok, range_ok_at, ranges_ok, covers, in_ranges, available}
 use Rattle.slots.specs.Atomic.{lies_before, is_cut, cut_after, cuts_in, atom_starts, atom_ends, Atoms, starts_of_atoms}
@@ -48,7 +48,7 @@ use Rattle.records.specs.Puts.{put}
 use Rattle.job.specs.File.{job_sizes, job_layout, JobRecords, JobFile}
 use Rattle.job.specs.Listing.{Listed, listed, digits, decimal, signed, listing_of}
 use Rattle.job.specs.Stages.{Ready, ready, value_of, listed_of}
-use Rattle.job.specs.Outcome.{test_at, AllPass, job_tests, job_refusal, Result, listed_as, job_result}
+use Rattle.job.specs.Outcome.{test_at, AllPass, job_tests, job_refusal, Outcome as JobOutcome, listed_as, job_result}
 use Rattle.job.proofs.Tests.{number-none}
 use Rattle.job.proofs.Answered.{numbered}
 use Rattle.job.proofs.Results.{answered-none}
@@ -162,7 +162,7 @@ ready_on A =
     (targets.compute_targets (targets.given 2 n A.starts A.ends w G.capacities G.priors 0 0) (replicate 32 (pos 0))).out
 
 ready-is : ready_from G ≡ R
-unfolding written_as number_as unless onto
+unfolding written_as answer_as unless onto
 ready-is =
     ap ready_on atoms_are
     ∙ ap₂ (λ (w : List ℕ) (u : Written). ready 2 2 from to w (value_of u.answer) u.buffer (replicate 16 0)
@@ -423,7 +423,7 @@ module _ (x : List ℕ) (room : 65536 ≤ length x) where
 
   accepted : (job_refusal (job_result file x).answer).number ≡ 0
   unfolding listed_as
-  accepted = ap (λ (y : Result). (job_refusal y.answer).number) result
+  accepted = ap (λ (y : JobOutcome). (job_refusal y.answer).number) result
 
   listing-is : listing_of (listed_of file) ≡ example_text
   listing-is =

@@ -24,7 +24,7 @@ use Rattle.job.specs.Columns.{column, float_column}
 use Rattle.job.specs.Stages.{counted, block_start, people_of, column_of, ranges_of, capacities_of, priors_of, settings_in, instant_of, draws_of}
 use Rattle.job.specs.Stages.{base_of, atoms_of, avail_in, targets_in, units_in, frozen_in, ready_in, ready_of, record_known, all_known}
 use Rattle.job.specs.Stages.{byte_of, narrowed, written_of, owners_of, start_of, play_of, started_of, played_of, listed_of}
-use Rattle.job.specs.Outcome.{AllPass, read_row, prepare_row, job_tests, Result, refused_as, job_refusal, job_result}
+use Rattle.job.specs.Outcome.{AllPass, read_row, prepare_row, job_tests, Outcome, refused_as, job_refusal, job_result}
 use Rattle.job.proofs.Layouts.{counts-read, fields_read, settings-read}
 use Rattle.job.proofs.Prepares.{byte_small}
 use Rattle.job.proofs.Tests.{number-none}
@@ -173,7 +173,7 @@ accepted-none s x e =
     (λ f.
     let n = eqb-false _ 0 f in
     absurd (n (sym (said (job_tests s (length x)) refl)
-    ∙ sym (ap (λ (y : Result). (job_refusal y.answer).number) (answered-some s x n)) ∙ e)))
+    ∙ sym (ap (λ (y : Outcome). (job_refusal y.answer).number) (answered-some s x n)) ∙ e)))
 
 pub accepted-pass : (s x : List ℕ) → (job_refusal (job_result s x).answer).number ≡ 0 → AllPass (job_tests s (length x))
 accepted-pass s x e = (number-none (job_tests s (length x)) (numbered s (length x))).0 (accepted-none s x e)

@@ -1,4 +1,5 @@
 -- The listing is the text of its lines, and what an accepted job leaves is that text. Assumes nothing.
+use Rattle.std.specs.Prelude.{Ok}
 use mathlib.Core.Path.{◌≡◌, refl, sym, ap, ap₂, ◌∙◌}
 use mathlib.Core.Logic.{◌↔◌, ⊎_elim}
 use mathlib.Core.Bool.{Bool, true, false, cond}
@@ -12,12 +13,11 @@ use Rattle.owners.specs.Entries.{placeless}
 use Rattle.paper.specs.declared.Refusal.{Refusal}
 use Rattle.paper.proofs.Logic.{by-test, lt-or-ge}
 use Rattle.records.specs.Puts.{put}
-use Rattle.job.specs.declared.JobAnswer.TheVariants as answer
 use Rattle.job.specs.File.{JobFile}
 use Rattle.job.specs.Listing.{digits, signed, owner_text, answer_letter, head_text, slot_line, person_line, draw_line, uncovered_line, refusal_line}
 use Rattle.job.specs.Listing.{place_text, part_text}
 use Rattle.job.specs.Listing.{lines, Listed, slot_at, person_at, draw_at, listing_of}
-use Rattle.job.specs.Outcome.{Result, refused_as, listed_as, job_refusal, job_length, job_result, refusal_result}
+use Rattle.job.specs.Outcome.{Outcome, refused_as, listed_as, job_refusal, job_length, job_result, refusal_result}
 use Rattle.job.proofs.Digits.{digits_value, digits_decimal, signed-value}
 use Rattle.job.proofs.Results.{answered-none}
 use Rattle.job.proofs.Promises.{listing-stands}
@@ -101,8 +101,8 @@ listing-left : (s x : List ℕ) (J : JobFile s) → (job_refusal (job_result s x
     × (drop n (job_result s x).out ≡ drop n x)
 unfolding listed_as
 listing-left s x J e =
-    let p = ap (λ (y : Result). y.answer) (answered-none s x (accepted-none s x e)) in
-    let stands = listing-stands s x (job_length 0 (job_result s x).answer) (p ∙ ap answer.Length (sym (ap (job_length 0) p))) in
+    let p = ap (λ (y : Outcome). y.answer) (answered-none s x (accepted-none s x e)) in
+    let stands = listing-stands s x (job_length 0 (job_result s x).answer) (p ∙ ap Ok (sym (ap (job_length 0) p))) in
     (stands.0 ∙ ap listing_of (job-by-records s x J e) ∙ listing-text _, stands.1)
 
 -- ---- the line of a refusal
@@ -135,14 +135,14 @@ module _ (f : Refusal) (x : List ℕ) where
 
   is-two : refusal_result f x ≡ refused_as (placeless 2) x → job_refusal (refusal_result f x).answer ≡ placeless 2
   unfolding refused_as
-  is-two e = ap (λ (y : Result). job_refusal y.answer) e
+  is-two e = ap (λ (y : Outcome). job_refusal y.answer) e
 
   number-two : refusal_result f x ≡ refused_as (placeless 2) x → (job_refusal (refusal_result f x).answer).number ≡ 2
   number-two e = ap (λ (g : Refusal). g.number) (is-two e)
 
   number-none : (l : List ℕ) → refusal_result f x ≡ listed_as l x → (job_refusal (refusal_result f x).answer).number ≡ 0
   unfolding listed_as
-  number-none l e = ap (λ (y : Result). (job_refusal y.answer).number) e
+  number-none l e = ap (λ (y : Outcome). (job_refusal y.answer).number) e
 
   line-number : ((job_refusal (refusal_result f x).answer).number ≡ 0) ↔ (length (refusal_text f) ≤ length x)
   line-number = (
@@ -153,7 +153,7 @@ module _ (f : Refusal) (x : List ℕ) where
   line_kept : ((job_refusal (refusal_result f x).answer).number ≡ 0 → ⊥)
       → (job_refusal (refusal_result f x).answer ≡ placeless 2) × ((refusal_result f x).out ≡ x)
   unfolding refused_as
-  line_kept n = by-room _ (λ h e. (is-two e, ap (λ (y : Result). y.out) e)) (λ h e. absurd (n (number-none _ e)))
+  line_kept n = by-room _ (λ h e. (is-two e, ap (λ (y : Outcome). y.out) e)) (λ h e. absurd (n (number-none _ e)))
 
   line-left : (job_refusal (refusal_result f x).answer).number ≡ 0
       → let l = job_length 0 (refusal_result f x).answer in
@@ -164,9 +164,9 @@ module _ (f : Refusal) (x : List ℕ) where
       (λ h e.
       let t = refusal_text f in
       let l = job_length 0 (refusal_result f x).answer in
-      let m : l ≡ length t = ap (λ (y : Result). job_length 0 y.answer) e in
+      let m : l ≡ length t = ap (λ (y : Outcome). job_length 0 y.answer) e in
       let k : 0 + length t ≡ l = omega arith in
-      let o : (refusal_result f x).out ≡ t ++ drop (0 + length t) x = ap (λ (y : Result). y.out) e in
+      let o : (refusal_result f x).out ≡ t ++ drop (0 + length t) x = ap (λ (y : Outcome). y.out) e in
       (ap (take l) o ∙ take_at t _ l (sym m), ap (drop l) o ∙ drop_at t _ l (sym m) ∙ ap (λ (j : ℕ). drop j x) k))
 
 pub job-text : JobText

@@ -1,4 +1,5 @@
 -- The rules of lists hold of what is built, and one that always lists the same breaks them. Assumes nothing.
+use Rattle.std.specs.Prelude.{Result, Ok, Option, Some, None}
 use mathlib.Core.Path.{◌≡◌, refl, sym, ap, ◌∙◌}
 use mathlib.Core.Bool.{Bool, true, false}
 use mathlib.Core.List.{List, [], ◌∷◌, ◌++◌}
@@ -11,9 +12,6 @@ use Rattle.paper.specs.Limits.{people_ok, slot_count_ok, number_of}
 use Rattle.paper.proofs.Logic.{lt-or-ge}
 use mathlib.Core.Logic.{⊎_elim}
 use Rattle.slotset.specs.declared.SlotSet.{SlotSet}
-use Rattle.slotset.specs.declared.Number.{Number}
-use Rattle.slotset.specs.declared.Number.TheVariants as number
-use Rattle.slotset.specs.declared.NextRun.TheVariants as next_run
 use Rattle.slotset.specs.declared.NextRun.{NextRun}
 use Rattle.slotset.specs.declared.Run.{Run}
 use Rattle.slotset.specs.declared.Run.TheVariants.{Span}
@@ -41,13 +39,13 @@ use Rattle.promises.proofs.UnitRules.{units-by-rule}
 -- ---- of what is built
 
 run-built : (s : SlotSet) (i first last : ℕ) → number_of (length_row s.len) ≡ 0 → Around 1 (slots_of s) s.len i first last
-    → built.run s i ≡ Span first last
+    → built.run s i ≡ Ok (Span first last)
 run-built s i first last e a =
     let r = sets-by-rule.run (slots_of s) (slot_lt s.words 0) s.len i in
-    ap (λ (n : ℕ). run_as n (slots_of s) s.len i) e ∙ sym (r.only (Span first last) a)
+    ap (λ (n : ℕ). run_as n (slots_of s) s.len i) e ∙ sym (r.only (Ok (Span first last)) a)
 
 next-run-built : (s : SlotSet) (at : ℕ) (l : List Ends) → number_of (length_row s.len) ≡ 0 → AreRuns (slots_of s) s.len at l
-    → built.next_run s at ≡ first_ahead l
+    → built.next_run s at ≡ Ok (first_ahead l)
 next-run-built s at l e a =
     ap (λ (n : ℕ). next_run_as n (slots_of s) s.len at) e ∙ sets-by-rule.next-run (slots_of s) (slot_lt s.words 0) s.len at l a
 
@@ -60,7 +58,7 @@ module _ (ws : List ℕ) (people person len : ℕ) (firsts lasts : List ℕ)
   abbrev Right : List Ends → Type 0
   Right l =
       let x = all_runs_of ws people person len firsts lasts in
-      (x.answer ≡ number.Is (length l)) × FrontOf (λ r. r.first) l firsts x.firsts × FrontOf (λ r. r.last) l lasts x.lasts
+      (x.answer ≡ Ok (length l)) × FrontOf (λ r. r.first) l firsts x.firsts × FrontOf (λ r. r.last) l lasts x.lasts
 
   all-runs-built : Right l
   all-runs-built = mathlib.Core.Path.subst Right (sym all_are) (sets-by-rule.all_runs ws people person len firsts lasts e)
@@ -94,10 +92,10 @@ long-list p l x a b =
     let z : i.0 ≡ j.0 = omega (arith, i.1, j.1, h) in
     absurd (omega (arith, sym i.2 ∙ ap (λ (k : ℕ). get_or l k 0) z ∙ j.2))) (lt-or-ge 1 (length l))
 
-differ : (p q : ℕ → Bool) (l m x y : List ℕ) (v w : Written) (n : Number) → Lists p 1 l x v → Lists q 2 m y w → q 0 ≡ true → q 1 ≡ true
+differ : (p q : ℕ → Bool) (l m x y : List ℕ) (v w : Written) (n : Result ℕ ℕ) → Lists p 1 l x v → Lists q 2 m y w → q 0 ≡ true → q 1 ≡ true
     → v.answer ≡ n → w.answer ≡ n → ⊥
 differ p q l m x y v w n a b t u d e =
-    let s : number.Is (length l) ≡ number.Is (length m) = sym a.number ∙ d ∙ sym e ∙ b.number in
+    let s : ◌≡◌ {A = Result ℕ ℕ} (Ok (length l)) (Ok (length m)) = sym a.number ∙ d ∙ sym e ∙ b.number in
     let z : length l ≡ length m = cc in
     omega (arith, z, short-list p l a.listed.meets, long-list q m b.listed.meets t u)
 
@@ -183,7 +181,7 @@ around-two = record {
 }
 
 module _ (C : Component) (L : ListsByRule C) where
-  rotations-fall : (n : Number)
+  rotations-fall : (n : Result ℕ ℕ)
       → ((s : Settings) (slots : ℕ) (starts ends list : List ℕ) → number_of (starts_row s slots starts ends list) ≡ 0
       → (C.rotations s slots starts ends list).answer ≡ n) → ⊥
   rotations-fall n f =
@@ -192,7 +190,7 @@ module _ (C : Component) (L : ListsByRule C) where
       differ _ _ a.0 b.0 _ _ _ _ n a.1 b.1 (each-begins 0 (omega arith)) (each-begins 1 (omega arith))
       (f _ _ _ _ _ one-accepted) (f _ _ _ _ _ two-accepted)
 
-  units-fall : (n : Number)
+  units-fall : (n : Result ℕ ℕ)
       → ((s : Settings) (slots : ℕ) (starts ends list : List ℕ) → number_of (starts_row s slots starts ends list) ≡ 0
       → (C.unit_starts s slots starts ends list).answer ≡ n) → ⊥
   unfolding unit_begins
@@ -201,7 +199,7 @@ module _ (C : Component) (L : ListsByRule C) where
       let b = L.units each 2 (0 ∷ 60 ∷ []) (60 ∷ 120 ∷ []) (0 ∷ 0 ∷ []) two-accepted in
       differ _ _ a.0 b.0 _ _ _ _ n a.1 b.1 refl refl (f _ _ _ _ _ one-accepted) (f _ _ _ _ _ two-accepted)
 
-  slot-domain-falls : (n : Number)
+  slot-domain-falls : (n : Result ℕ ℕ)
       → ((avail : List ℕ) (people slots k : ℕ) (list : List ℕ) → number_of (slot_domain_row avail people slots k list) ≡ 0
       → (C.slot_domain avail people slots k list).answer ≡ n) → ⊥
   unfolding number_of slot_domain_row people_ok slot_count_ok available slot bit_of
@@ -210,7 +208,7 @@ module _ (C : Component) (L : ListsByRule C) where
       let b = L.slot-domain (words 1 ++ words 1) 2 1 0 (0 ∷ 0 ∷ []) refl in
       differ _ _ a.0 b.0 _ _ _ _ n a.1 b.1 refl refl (f _ _ _ _ _ refl) (f _ _ _ _ _ refl)
 
-  unit-domain-falls : (n : Number)
+  unit-domain-falls : (n : Result ℕ ℕ)
       → ((avail : List ℕ) (people slots units : ℕ) (begins : List ℕ) (u : ℕ) (list : List ℕ)
       → number_of (unit_domain_row avail people slots units begins u list) ≡ 0
       → (C.unit_domain avail people slots units begins u list).answer ≡ n) → ⊥
@@ -234,23 +232,23 @@ module _ (C : Component) (L : ListsByRule C) where
       mathlib.Core.Bool.true≢false (sym (away.0 (ap (λ (x : ℕ). bit_of x 0) (sym same) ∙ bit)).1 ∙ away-able)
 
   -- the empty set of one slot, and the full one
-  run-falls : (x : Run) → ((s : SlotSet) (i : ℕ) → number_of (length_row s.len) ≡ 0 → C.run s i ≡ x) → ⊥
+  run-falls : (x : Result Run ℕ) → ((s : SlotSet) (i : ℕ) → number_of (length_row s.len) ≡ 0 → C.run s i ≡ x) → ⊥
   unfolding number_of length_row
   run-falls x f =
       let a = L.run (in_words 1 (words 1)) 0 0 0 refl around-one in
       let b = L.run (in_words 2 (words 3)) 1 0 1 refl around-two in
-      let q : Span 0 0 ≡ Span 0 1 = sym a ∙ f _ _ refl ∙ sym (f _ _ refl) ∙ b in
+      let q : ◌≡◌ {A = Result Run ℕ} (Ok (Span 0 0)) (Ok (Span 0 1)) = sym a ∙ f _ _ refl ∙ sym (f _ _ refl) ∙ b in
       let z : ◌≡◌ {A = ℕ} 0 1 = cc in omega arith
 
-  next-run-falls : (x : NextRun) → ((s : SlotSet) (at : ℕ) → number_of (length_row s.len) ≡ 0 → C.next_run s at ≡ x) → ⊥
+  next-run-falls : (x : Result (Option NextRun) ℕ) → ((s : SlotSet) (at : ℕ) → number_of (length_row s.len) ≡ 0 → C.next_run s at ≡ x) → ⊥
   unfolding number_of length_row
   next-run-falls x f =
       let a = L.next-run (in_words 1 (words 1)) 0 (full ∷ []) refl one-run in
       let b = L.next-run (in_words 1 (words 0)) 0 [] refl no_run in
-      let q : next_run.Span 0 0 (record { at = 1 }) ≡ next_run.Done = sym a ∙ f _ _ refl ∙ sym (f _ _ refl) ∙ b in
+      let q : ◌≡◌ {A = Result (Option NextRun) ℕ} (Ok (Some (record { first = 0; last = 0; next = record { at = 1 } }))) (Ok None) = sym a ∙ f _ _ refl ∙ sym (f _ _ refl) ∙ b in
       let z : ◌≡◌ {A = ℕ} 0 1 = cc in omega arith
 
-  all-runs-fall : (n : Number)
+  all-runs-fall : (n : Result ℕ ℕ)
       → ((ws : List ℕ) (people person len : ℕ) (firsts lasts : List ℕ)
       → number_of (runs_row ws people person len (length firsts) (length lasts)) ≡ 0
       → (C.all_runs ws people person len firsts lasts).answer ≡ n) → ⊥
@@ -258,7 +256,7 @@ module _ (C : Component) (L : ListsByRule C) where
   all-runs-fall n f =
       let a = L.all_runs (words 1) 1 0 1 (0 ∷ []) (0 ∷ []) refl (full ∷ []) one-run in
       let b = L.all_runs (words 0) 1 0 1 (0 ∷ []) (0 ∷ []) refl [] no_run in
-      let q : number.Is 1 ≡ number.Is 0 = sym a.0 ∙ f _ _ _ _ _ _ refl ∙ sym (f _ _ _ _ _ _ refl) ∙ b.0 in
+      let q : ◌≡◌ {A = Result ℕ ℕ} (Ok 1) (Ok 0) = sym a.0 ∙ f _ _ _ _ _ _ refl ∙ sym (f _ _ _ _ _ _ refl) ∙ b.0 in
       let z : ◌≡◌ {A = ℕ} 1 0 = cc in omega arith
 
   pub fixed-list-falls : FixedList C → ⊥

@@ -1,4 +1,5 @@
 -- A damaged rota mended, by its rule. Assumes nothing.
+use Rattle.std.specs.Prelude.{Result, Ok, Err}
 use mathlib.Core.Path.{◌≡◌, refl, sym, ap, ap₂, ◌∙◌}
 use mathlib.Core.List.{List, [], ◌∷◌, ◌++◌}
 use Prim.Native.Nat.{ℕ, ◌*◌, ◌≤◌, ◌<◌}
@@ -8,16 +9,13 @@ use lib.Dec.{leb}
 use lib.ListN.{length, get_or}
 use Rattle.paper.specs.Limits.{people_ok, slot_count_ok, Test, test, number_of}
 use Rattle.paper.specs.declared.Refusal.{Refusal}
-use Rattle.paper.specs.Rows.{unless}
+use Rattle.paper.specs.Rows.{unless, answer_as}
 use Rattle.paper.specs.Count.{all, all_in, sum, count, over, fill, onto, among}
 use Rattle.paper.specs.Bits.{bit_of}
 use Rattle.paper.proofs.Refusals.{number-pass, number-fail}
 use Rattle.paper.proofs.Rows.{said, worked, kept}
-use Rattle.slotset.specs.declared.Number.{Number}
-use Rattle.slotset.specs.declared.Number.TheVariants as number
 use Rattle.slotset.specs.Slots.{slot, with_bit, put_slot, put_slots}
-use Rattle.slotset.specs.Answers.{number_as}
-use Rattle.slotset.proofs.Refusals.{number_is, number-refused}
+use Rattle.slotset.proofs.Refusals.{answer-is, answer-refused}
 use Rattle.slots.specs.Lent.{slot_room_ok, slots_ok, slot_ok_at, slot_ok, prev_end, minutes_at}
 use Rattle.units.specs.Units.{units_ok, start_ok, unit_end}
 use Rattle.units.specs.Domains.{available}
@@ -61,10 +59,10 @@ first d =
 
 -- ---- the outcome, by the number
 
-outcome-same : {a a' : Number} {R R' : Rota} {l l' : List ℕ} → a ≡ a' → R ≡ R' → l ≡ l'
+outcome-same : {a a' : Result ℕ ℕ} {R R' : Rota} {l l' : List ℕ} → a ≡ a' → R ≡ R' → l ≡ l'
     → ◌≡◌ {A = Outcome} (record { answer = a; rota = R; list = l }) (record { answer = a'; rota = R'; list = l' })
 outcome-same {a} {a'} {R} {R'} {l} {l'} ea e_r el =
-    ap₂ {C = Outcome} (λ (x : Number) (y : Rota). record { answer = x; rota = y; list = l }) ea e_r
+    ap₂ {C = Outcome} (λ (x : Result ℕ ℕ) (y : Rota). record { answer = x; rota = y; list = l }) ea e_r
     ∙ ap {B = Outcome} (λ (x : List ℕ). record { answer = a'; rota = R'; list = x }) el
 
 module _ (d : Damaged) where
@@ -89,27 +87,27 @@ module _ (d : Damaged) where
       sym (said (lent_tests d ++ (last ∷ [])) refl) ∙ ap (λ (f : Refusal). f.number) (first_stops (lent_tests d) (last ∷ []) n)
       ∙ said (lent_tests d) refl
 
-  stays : (n : ℕ) → number_of tests ≡ n → (n ≡ 0 → ⊥) → mend_of d ≡ record { answer = number.Refused n; rota = d.found; list = d.list }
+  stays : (n : ℕ) → number_of tests ≡ n → (n ≡ 0 → ⊥) → mend_of d ≡ record { answer = Err n; rota = d.found; list = d.list }
   unfolding mending
   stays n e h =
       let some : number_of tests ≡ 0 → ⊥ = λ q. h (sym e ∙ q) in
-      outcome-same (sym (number-refused n (number_of tests) (sym e) h (length due))) (kept (number_of tests) d.found _ some)
+      outcome-same (sym (answer-refused n (number_of tests) (sym e) h (length due))) (kept (number_of tests) d.found _ some)
       (kept (number_of tests) d.list _ some)
 
   is-short : number_of (lent_tests d) ≡ 0 → length d.list < 5 * length due
-      → mend_of d ≡ record { answer = number.Refused 2; rota = d.found; list = d.list }
+      → mend_of d ≡ record { answer = Err 2; rota = d.found; list = d.list }
   unfolding number_of
   is-short z h = stays 2 (on z ∙ number-fail last [] (lt-leb (5 * length due) (length d.list) h)) (λ q. omega arith)
 
   is-done : number_of (lent_tests d) ≡ 0 → 5 * length due ≤ length d.list → mend_of d ≡ record {
-    answer = number.Is (length due);
+    answer = Ok (length due);
     rota = mended_of d d.found;
     list = onto (numbers due) d.list;
   }
   unfolding mending number_of
   is-done z h =
       let e : number_of tests ≡ 0 = on z ∙ number-pass last [] (le-leb (5 * length due) (length d.list) h) in
-      outcome-same (sym (number_is 0 (number_of tests) (sym e) refl (length due) (length due) refl))
+      outcome-same (sym (answer-is 0 (number_of tests) (sym e) refl (length due) (length due) refl))
       (worked (number_of tests) d.found (mended_of d d.found) e) (worked (number_of tests) d.list (onto (numbers due) d.list) e)
 
   -- ---- what comes out
@@ -131,19 +129,19 @@ module _ (d : Damaged) where
 -- ---- all of it
 
 seven : mend_of (seven_found 30) ≡ record {
-  answer = number.Is 6;
+  answer = Ok 6;
   rota = rota (255 ∷ 255 ∷ []) (figures.derived (Rattle.promises.specs.Marked.words 0) (0 ∷ []) (120 ∷ 2 ∷ []));
   list = 0 ∷ 0 ∷ 7 ∷ 255 ∷ 1 ∷ 0 ∷ 1 ∷ 0 ∷ 255 ∷ 0 ∷ 1 ∷ 0 ∷ 3 ∷ 0 ∷ 0 ∷ 2 ∷ 0 ∷ 120 ∷ 0 ∷ 0 ∷ 3 ∷ 0 ∷ 0 ∷ 120 ∷ 0 ∷ 3 ∷ 1 ∷ 0 ∷ 2 ∷ 0
       ∷ [];
 }
-unfolding mending mend_row found_row mended_rota repairs_due repairs repairs_of numbers differs_at column entries flag_of number_as unless number_of
+unfolding mending mend_row found_row mended_rota repairs_due repairs repairs_of numbers differs_at column entries flag_of answer_as unless number_of
     people_ok slot_count_ok slot_room_ok slots_ok all slot_ok_at slot_ok prev_end units_ok start_ok mended barred_cleared uneven_cleared left_to may_keep
     known_at available_at known_by available_for available even_at all_in unit_end over fill onto among slot bit_of afresh sets_from held put_slots
     put_slot with_bit total_of uncovered unassigned count sum portion figures.worked minutes_at
 seven = refl
 
-seven-short : mend_of (seven_found 29) ≡ record { answer = number.Refused 2; rota = (seven_found 29).found; list = lib.ListN.replicate 29 9 }
-unfolding mending mend_row found_row mended_rota repairs_due repairs repairs_of numbers differs_at column entries flag_of number_as unless number_of
+seven-short : mend_of (seven_found 29) ≡ record { answer = Err 2; rota = (seven_found 29).found; list = lib.ListN.replicate 29 9 }
+unfolding mending mend_row found_row mended_rota repairs_due repairs repairs_of numbers differs_at column entries flag_of answer_as unless number_of
     people_ok slot_count_ok slot_room_ok slots_ok all slot_ok_at slot_ok prev_end units_ok start_ok mended barred_cleared uneven_cleared left_to may_keep
     known_at available_at known_by available_for available even_at all_in unit_end over fill onto among slot bit_of afresh sets_from held put_slots
     put_slot with_bit total_of uncovered unassigned count sum portion figures.worked minutes_at

@@ -1,4 +1,5 @@
 -- Only one outcome fits each contract. Assumes nothing.
+use Rattle.std.specs.Prelude.{Result}
 use mathlib.Core.Path.{◌≡◌, sym, ap, ap₂, ◌∙◌}
 use mathlib.Core.List.{List}
 use Prim.Native.Nat.{ℕ}
@@ -61,7 +62,7 @@ one-outcome-fits = record {
   read-block = λ t blocks ks fs ss rs r s p q.
       let e = p.said ∙ sym q.said in
       let same : (off : ℕ) (l : List ℕ) → fields_of t off (draws_in r.0) l ≡ fields_of t off (draws_in s.0) l =
-      λ off l. ap (λ (a : BlockRead). fields_of t off (draws_in a) l) e in
+      λ off l. ap (λ (a : Result BlockRead ℕ). fields_of t off (draws_in a) l) e in
       five r s e (p.draws ∙ same 4 ks ∙ sym q.draws) (p.firsts ∙ same 6 fs ∙ sym q.firsts) (p.seconds ∙ same 8 ss ∙ sym q.seconds)
       (p.recorded ∙ same 10 rs ∙ sym q.recorded);
   way_back = λ y r s p q.

@@ -1,4 +1,5 @@
 -- Where the recount failed, by the laws of owners and of job. Assumes nothing.
+use Rattle.std.specs.Prelude.{Err}
 use mathlib.Core.Path.{◌≡◌, refl, sym, ap, ◌∙◌, subst}
 use mathlib.Core.Bool.{Bool, true, cond, not, ◌&&◌, ◌||◌}
 use mathlib.Core.List.{List, [], ◌∷◌, ◌++◌}
@@ -25,7 +26,6 @@ use Rattle.owners.proofs.RecountRefusals.{first_on, first_stops}
 use Rattle.owners.proofs.Entered.{recount-number}
 use Rattle.rota.specs.Entries.{assign_row, assigned, played_list}
 use Rattle.rota.specs.declared.draws.Draw.{Draw}
-use Rattle.job.specs.declared.JobAnswer.TheVariants as answer
 use Rattle.job.specs.File.{JobFile}
 use Rattle.job.specs.Stages.{uneven_of}
 use Rattle.job.specs.Outcome.{rank, test_at, Lowest, read_row, prepare_row, job_tests, refusal_at, job_result}
@@ -313,7 +313,7 @@ draws-fail c ds t =
 
 -- ---- a job
 
-module _ (s x : List ℕ) (f : Refusal) (e : (job_result s x).answer ≡ answer.Refused f) where
+module _ (s x : List ℕ) (f : Refusal) (e : (job_result s x).answer ≡ Err f) where
   job_is : f ≡ refusal_at f.number (uneven_of s)
   job_is = ((lowest-number s x f).0 e).1
 

@@ -1,4 +1,5 @@
 -- A refusal as one number is read back: every number that an entry gives is small, and so is every place. Assumes nothing.
+use Rattle.std.specs.Prelude.{Err}
 use mathlib.Core.Path.{◌≡◌, refl, sym, ap, subst}
 use mathlib.Core.Bool.{Bool, true, ◌&&◌}
 use mathlib.Core.List.{List, [], ◌∷◌}
@@ -20,9 +21,8 @@ use Rattle.owners.specs.Entries.{placeless, Outcome, outcome, lent_row, recount_
 use Rattle.owners.proofs.Scans.{first-is}
 use Rattle.rota.specs.Entries.{assign_row, assigned, played_list}
 use Rattle.rota.specs.declared.draws.Draw.{Draw}
-use Rattle.job.specs.declared.JobAnswer.TheVariants as answer
 use Rattle.job.specs.Stages.{ready_of, written_of, uneven_in, uneven_of}
-use Rattle.job.specs.Outcome.{read_row, prepare_row, job_tests, Result, refused_as, listed_as, job_refusal, job_result}
+use Rattle.job.specs.Outcome.{read_row, prepare_row, job_tests, Outcome as JobOutcome, refused_as, listed_as, job_refusal, job_result}
 use Rattle.job.proofs.Answered.{Few, atom_tests, atoms-right, units-there}
 use Rattle.job.proofs.Results.{answered-none, answered-some}
 use Rattle.boltraven_c.specs.Numbers.{refusal_number}
@@ -148,7 +148,7 @@ module _ (s x : List ℕ) where
   ts = job_tests s (length x)
 
   -- its units are few where the tests before them pass
-  uneven-few : (f : Refusal) → (job_result s x).answer ≡ answer.Refused f → f.number ≡ 10 → uneven_of s ≤ 1024
+  uneven-few : (f : Refusal) → (job_result s x).answer ≡ Err f → f.number ≡ 10 → uneven_of s ≤ 1024
   unfolding job_tests read_row prepare_row number_of uneven_of uneven_in
   uneven-few f e t =
       let b = before s x f e t in
@@ -164,7 +164,7 @@ module _ (s x : List ℕ) where
         (slot-count-says R.slots A.count-ok).1,
       )
 
-  refused-small : (f : Refusal) → (job_result s x).answer ≡ answer.Refused f → f.number < 256 → Small f
+  refused-small : (f : Refusal) → (job_result s x).answer ≡ Err f → f.number < 256 → Small f
   refused-small f e h =
       by-test (eqb f.number 10) _
       (λ t.
@@ -181,10 +181,10 @@ module _ (s x : List ℕ) where
   job-back =
       by-test (eqb (number_of ts) 0) _
       (λ t.
-      subst ReadsBack (sym (ap (λ (y : Result). job_refusal y.answer) (answered-none s x (eqb-true _ 0 t))))
+      subst ReadsBack (sym (ap (λ (y : JobOutcome). job_refusal y.answer) (answered-none s x (eqb-true _ 0 t))))
       (small-back accepted (placeless-small 0 (omega arith))))
       (λ t.
       let q = answered-some s x (eqb-false _ 0 t) in
-      subst ReadsBack (sym (ap (λ (y : Result). job_refusal y.answer) q))
-      (small-back (refusal_of ts) (refused-small (refusal_of ts) (ap (λ (y : Result). y.answer) q)
+      subst ReadsBack (sym (ap (λ (y : JobOutcome). job_refusal y.answer) q))
+      (small-back (refusal_of ts) (refused-small (refusal_of ts) (ap (λ (y : JobOutcome). y.answer) q)
       (subst (λ (n : ℕ). n < 256) (sym (said ts refl)) (number_small ts row_small)))))

@@ -1,4 +1,5 @@
 -- The reader of runs gives the list of runs. Assumes nothing.
+use Rattle.std.specs.Prelude.{Option, None, Result, Ok}
 use mathlib.Core.Path.{◌≡◌, refl, sym, ap, ◌∙◌}
 use mathlib.Core.List.{List, [], ◌∷◌, ◌++◌, map}
 use Prim.Native.Nat.{ℕ, zero, suc, ◌+◌, ◌*◌}
@@ -6,7 +7,6 @@ use native.Mathlib.Omega.{arith}
 use lib.ListN.{length, replicate}
 use denote.Ref.{Bor}
 use Rattle.slotset.specs.declared.NextRun.{NextRun}
-use Rattle.slotset.specs.declared.NextRun.TheVariants as next_run
 use Rattle.slotset.specs.Slots.{Bits}
 use Rattle.slotset.specs.Runs.{Ends, ends_of_runs, AreRuns}
 use Rattle.slotset.specs.Answers.{row_refusal, row_slots, next_run_as}
@@ -28,30 +28,30 @@ module _ (words : Bor (List ℕ)) (people person len : ℕ) (e : row_refusal wor
   abbrev reader : ℕ → Runs
   reader at = moved_to (reader_of words people person len) at
 
-  next-is : (at : ℕ) (l : List Ends) → AreRuns f len at l → next_of (reader at) ≡ first_ahead l
+  next-is : (at : ℕ) (l : List Ends) → AreRuns f len at l → next_of (reader at) ≡ Ok (first_ahead l)
   next-is at l x = ap (λ (n : ℕ). next_run_as n f len at) e ∙ sets-by-rule.next-run f bits len at l x
 
   -- the answers, by the first of them
-  first : (n at : ℕ) (a : NextRun) → next_of (reader at) ≡ a → answered (suc n) (reader at) ≡ a ∷ answered n (reader (cursor_after a at))
+  first : (n at : ℕ) (a : Result (Option NextRun) ℕ) → next_of (reader at) ≡ a → answered (suc n) (reader at) ≡ a ∷ answered n (reader (cursor_after a at))
   unfolding answered
-  first n at a q = ap (λ (x : NextRun). x ∷ answered n (reader (cursor_after x at))) q
+  first n at a q = ap (λ (x : Result (Option NextRun) ℕ). x ∷ answered n (reader (cursor_after x at))) q
 
   none : (at : ℕ) → answered zero (reader at) ≡ []
   unfolding answered
   none at = refl
 
   reads : (l : List Ends) (at m : ℕ) → AreRuns f len at l
-      → answered (length l + m) (reader at) ≡ map span_of l ++ replicate m next_run.Done
+      → answered (length l + m) (reader at) ≡ map span_of l ++ replicate m (Ok None)
   reads [] at zero x = none at
   reads [] at (suc m) x =
       let z : 0 + suc m ≡ suc m = omega arith in
       let w : 0 + m ≡ m = omega arith in
-      ap (λ (n : ℕ). answered n (reader at)) z ∙ first m at next_run.Done (next-is at [] x)
-      ∙ ap (λ (l : List NextRun). next_run.Done ∷ l) (ap (λ (n : ℕ). answered n (reader at)) (sym w) ∙ reads [] at m x)
+      ap (λ (n : ℕ). answered n (reader at)) z ∙ first m at (Ok None) (next-is at [] x)
+      ∙ ap (λ (l : List (Result (Option NextRun) ℕ)). Ok None ∷ l) (ap (λ (n : ℕ). answered n (reader at)) (sym w) ∙ reads [] at m x)
   reads (r ∷ rs) at m x =
       let z : suc (length rs) + m ≡ suc (length rs + m) = omega arith in
       ap (λ (n : ℕ). answered n (reader at)) z ∙ first (length rs + m) at (span_of r) (next-is at (r ∷ rs) x)
-      ∙ ap (λ (l : List NextRun). span_of r ∷ l) (reads rs (r.last + 1) m x.6)
+      ∙ ap (λ (l : List (Result (Option NextRun) ℕ)). span_of r ∷ l) (reads rs (r.last + 1) m x.6)
 
 pub reads-all-runs : ReadsAllRuns
 reads-all-runs words people person len m e =

@@ -1,4 +1,5 @@
 -- A replay of recorded blocks, by the laws of rota: demand 3 of all draws so far is cited, none of it is proved again. Assumes nothing.
+use Rattle.std.specs.Prelude.{Result, Ok, Err}
 use mathlib.Core.Path.{◌≡◌, refl, sym, ap, ap₂, subst, ◌∙◌}
 use mathlib.Core.Bool.{Bool, true, false, cond, ◌&&◌, ◌||◌}
 use mathlib.Core.List.{List, [], ◌∷◌, ◌++◌}
@@ -45,15 +46,15 @@ use Rattle.promises.proofs.ManyCalls.{accepted-number}
 
 -- ---- answers are told apart by their kind and place
 
-abbrev kind_of : Replayed → ℕ
-kind_of variant.Agrees = 0
-kind_of (variant.Differs p) = 1
-kind_of (variant.Refused f) = 2
+abbrev kind_of : Result Replayed Refusal → ℕ
+kind_of (Ok variant.Agrees) = 0
+kind_of (Ok (variant.Differs p)) = 1
+kind_of (Err f) = 2
 
-abbrev place_of : Replayed → ℕ
-place_of variant.Agrees = 0
-place_of (variant.Differs p) = p
-place_of (variant.Refused f) = 0
+abbrev place_of : Result Replayed Refusal → ℕ
+place_of (Ok variant.Agrees) = 0
+place_of (Ok (variant.Differs p)) = p
+place_of (Err f) = 0
 
 -- ---- one block
 
@@ -83,7 +84,7 @@ module _ (c : Call) (o : List ℕ) (D : Derived) (b : Part) where
 
   -- an accepted one
   is-played : number_of (replay_tests c o D b) ≡ 0
-      → ((replay_of c o D b).answer ≡ agrees_up_to b.count p) × ((replay_of c o D b).owners ≡ owners_after B o (take (suc p) ds))
+      → ((replay_of c o D b).answer ≡ Ok (agrees_up_to b.count p)) × ((replay_of c o D b).owners ≡ owners_after B o (take (suc p) ds))
       × ((replay_of c o D b).derived ≡ afresh c.plan (replay_of c o D b).owners D)
   unfolding replayed_list block_played
   is-played z =
@@ -92,7 +93,7 @@ module _ (c : Call) (o : List ℕ) (D : Derived) (b : Part) where
       (worked _ _ _ y, q, worked _ _ _ y ∙ ap (λ (l : List ℕ). afresh c.plan l D) (sym q))
 
   is-refused : (number_of (replay_tests c o D b) ≡ 0 → ⊥)
-      → ((replay_of c o D b).answer ≡ variant.Refused f) × ((replay_of c o D b).owners ≡ o) × ((replay_of c o D b).derived ≡ D)
+      → ((replay_of c o D b).answer ≡ Err f) × ((replay_of c o D b).owners ≡ o) × ((replay_of c o D b).derived ≡ D)
   unfolding replayed_list
   is-refused n =
       let y : f.number ≡ 0 → ⊥ = λ q. n (number_is ∙ q) in
@@ -127,13 +128,13 @@ module _ (c : Call) (o : List ℕ) (D : Derived) (b : Part) where
       (each_all (length ds) (agrees_at B o ds b.answers) (λ k h. eq-eqb _ _ (F k (omega (arith, many))))) ∙ many
 
   -- what is answered then
-  answer-agrees : b.count ≤ p → agrees_up_to b.count p ≡ variant.Agrees
+  answer-agrees : b.count ≤ p → ◌≡◌ {A = Result Replayed Refusal} (Ok (agrees_up_to b.count p)) (Ok variant.Agrees)
   unfolding agrees_up_to
-  answer-agrees h = ap {B = Replayed} (λ (t : Bool). cond t (variant.Differs p) variant.Agrees) (le-ltb p b.count h)
+  answer-agrees h = ap {B = Result Replayed Refusal} (λ (t : Bool). Ok (cond t (variant.Differs p) variant.Agrees)) (le-ltb p b.count h)
 
-  answer-differs : p < b.count → agrees_up_to b.count p ≡ variant.Differs p
+  answer-differs : p < b.count → ◌≡◌ {A = Result Replayed Refusal} (Ok (agrees_up_to b.count p)) (Ok (variant.Differs p))
   unfolding agrees_up_to
-  answer-differs h = ap {B = Replayed} (λ (t : Bool). cond t (variant.Differs p) variant.Agrees) (lt-ltb p b.count h)
+  answer-differs h = ap {B = Result Replayed Refusal} (λ (t : Bool). Ok (cond t (variant.Differs p) variant.Agrees)) (lt-ltb p b.count h)
 
   -- an answer that isn't a refusal comes of an accepted block
   accepted-of : (kind_of (replay_of c o D b).answer ≡ 2 → ⊥) → number_of (replay_tests c o D b) ≡ 0
@@ -141,7 +142,7 @@ module _ (c : Call) (o : List ℕ) (D : Derived) (b : Part) where
       by-test (eqb (number_of (replay_tests c o D b)) 0) _ (λ t. eqb-true _ 0 t)
       (λ n. absurd (k (ap kind_of (is-refused (eqb-false _ 0 n)).0)))
 
-  agrees-there : (replay_of c o D b).answer ≡ variant.Agrees
+  agrees-there : (replay_of c o D b).answer ≡ Ok variant.Agrees
       → (number_of (replay_tests c o D b) ≡ 0) × ((i : ℕ) → i < b.count → Agree B o ds b.answers i)
   agrees-there e =
       let k = ap kind_of e in
@@ -153,10 +154,10 @@ module _ (c : Call) (o : List ℕ) (D : Derived) (b : Part) where
       (z, λ i h. first-agree i (omega arith))
 
   agrees_back : (number_of (replay_tests c o D b) ≡ 0) × ((i : ℕ) → i < b.count → Agree B o ds b.answers i)
-      → (replay_of c o D b).answer ≡ variant.Agrees
+      → (replay_of c o D b).answer ≡ Ok variant.Agrees
   agrees_back w = (is-played w.0).0 ∙ answer-agrees (omega (arith, all-is-it w.1))
 
-  differs-there : (q : ℕ) → (replay_of c o D b).answer ≡ variant.Differs q → (number_of (replay_tests c o D b) ≡ 0) × FirstDiffers c o b q
+  differs-there : (q : ℕ) → (replay_of c o D b).answer ≡ Ok (variant.Differs q) → (number_of (replay_tests c o D b) ≡ 0) × FirstDiffers c o b q
   differs-there q e =
       let k = ap kind_of e in
       let z = accepted-of (λ x. omega (arith, k, x)) in
@@ -169,18 +170,18 @@ module _ (c : Call) (o : List ℕ) (D : Derived) (b : Part) where
         subst (FirstDiffers c o b) (sym is) (record { below = down; before = first-agree; here = first-not down }),
       )
 
-  differs-back : (q : ℕ) → (number_of (replay_tests c o D b) ≡ 0) × FirstDiffers c o b q → (replay_of c o D b).answer ≡ variant.Differs q
+  differs-back : (q : ℕ) → (number_of (replay_tests c o D b) ≡ 0) × FirstDiffers c o b q → (replay_of c o D b).answer ≡ Ok (variant.Differs q)
   differs-back q w =
       let is = first-is-it q w.1 in
-      (is-played w.0).0 ∙ answer-differs (omega (arith, w.1.below, is)) ∙ ap variant.Differs (sym is)
+      (is-played w.0).0 ∙ answer-differs (omega (arith, w.1.below, is)) ∙ ap (λ (i : ℕ). Ok (variant.Differs i)) (sym is)
 
   -- the draws that are played
   played-are : number_of (replay_tests c o D b) ≡ 0 → take (suc p) ds ≡ played_in (replay_of c o D b).answer b
   played-are z =
       ⊎_elim
-      (λ (l : p < b.count). sym (ap (λ (r : Replayed). played_in r b) ((is-played z).0 ∙ answer-differs l)))
+      (λ (l : p < b.count). sym (ap (λ (r : Result Replayed Refusal). played_in r b) ((is-played z).0 ∙ answer-differs l)))
       (λ (l : b.count ≤ p).
-      take_all (suc p) ds (omega (arith, many)) ∙ sym (ap (λ (r : Replayed). played_in r b) ((is-played z).0 ∙ answer-agrees l)))
+      take_all (suc p) ds (omega (arith, many)) ∙ sym (ap (λ (r : Result Replayed Refusal). played_in r b) ((is-played z).0 ∙ answer-agrees l)))
       (lt-or-ge p b.count)
 
   pub block-played : number_of (replay_tests c o D b) ≡ 0 → BlockPlayed replay_of c o D b
@@ -234,7 +235,7 @@ playable-left c o D b f e =
 
 -- ---- one block that agrees
 
-module _ (c : Call) (o : List ℕ) (D : Derived) (b : Part) (e : (replay_of c o D b).answer ≡ variant.Agrees) where
+module _ (c : Call) (o : List ℕ) (D : Derived) (b : Part) (e : (replay_of c o D b).answer ≡ Ok variant.Agrees) where
   abbrev left : Outcome
   left = replay_of c o D b
 
@@ -249,7 +250,7 @@ module _ (c : Call) (o : List ℕ) (D : Derived) (b : Part) (e : (replay_of c o 
 
   left-owners : left.owners ≡ owners_after (board_in c) o (block_draws b)
   left-owners =
-      (block-played c o D b none).owners ∙ ap (λ (r : Replayed). owners_after (board_in c) o (played_in r b)) e
+      (block-played c o D b none).owners ∙ ap (λ (r : Result Replayed Refusal). owners_after (board_in c) o (played_in r b)) e
 
   left-derived : left.derived ≡ afresh c.plan left.owners D
   left-derived = (block-played c o D b none).derived

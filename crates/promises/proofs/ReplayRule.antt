@@ -1,4 +1,5 @@
 -- replay_block by its rule: its refusals, its reading in C, and the night that is worked out. Assumes nothing.
+use Rattle.std.specs.Prelude.{Result, Ok, Err}
 use mathlib.Core.Path.{◌≡◌, refl, sym, ap, ap₂, subst, ◌∙◌}
 use mathlib.Core.Bool.{Bool, true, false, cond, ◌&&◌}
 use mathlib.Core.List.{List, [], ◌∷◌, ◌++◌}
@@ -68,16 +69,17 @@ module _ (c : Call) (o : List ℕ) (D : Derived) (b : Part) where
   abbrev ok : Bool
   ok = all b.count (answer_ok b.answers)
 
-  abbrev r : Replayed
+  abbrev r : Result Replayed Refusal
   r = (replay_of c o D b).answer
 
   -- what is answered, by the tests
   refused_as : (number_of (replay_tests c o D b) ≡ 0 → ⊥)
-      → (r ≡ variant.Refused (refusal_of (replay_tests c o D b))) × ((replay_of c o D b).owners ≡ o) × ((replay_of c o D b).derived ≡ D)
+      → (r ≡ Err (refusal_of (replay_tests c o D b))) × ((replay_of c o D b).owners ≡ o) × ((replay_of c o D b).derived ≡ D)
   refused_as = blocks-by-rule.refused c o D b
 
   -- an accepted block agrees, or differs at a place
-  answered : number_of (replay_tests c o D b) ≡ 0 → (X : Replayed → Type 0) → X variant.Agrees → ((p : ℕ) → X (variant.Differs p)) → X r
+  answered : number_of (replay_tests c o D b) ≡ 0 → (X : Result Replayed Refusal → Type 0) → X (Ok variant.Agrees)
+      → ((p : ℕ) → X (Ok (variant.Differs p))) → X r
   answered z X agreed differed =
       let same : ℕ → Bool = λ i. eqb (get_or (answers (board_in c) o (block_draws b)) i 0) (get_or b.answers i 0) in
       let F = first-is b.count same in
@@ -163,19 +165,19 @@ module _ (c : Call) (o : List ℕ) (D : Derived) (b : Part) where
       (λ _. small-back _ (placeless-small 13 (omega arith)))
 
   refused-reads : (f : Refusal) → ReadsBack f → (f.number ≡ 0 → ⊥) → (place : ℕ)
-      → read_replayed (refusal_number f) place ≡ variant.Refused f
+      → read_replayed (refusal_number f) place ≡ Err f
   refused-reads f e n place =
       let v = refusal_number f in
       let m : v % 256 ≡ f.number = ap (λ (g : Refusal). g.number) e in
       let not-Agrees = ne_eqb v 0 (λ k. n (sym m ∙ ap (λ (j : ℕ). j % 256) k)) in
       let not-place = ne_eqb v 65536 (λ k. n (sym m ∙ ap (λ (j : ℕ). j % 256) k)) in
-      ap₂ {C = Replayed} (λ (x y : Bool). cond x variant.Agrees (cond y (variant.Differs place) (variant.Refused (read_refusal v))))
+      ap₂ {C = Result Replayed Refusal} (λ (x y : Bool). cond x (Ok variant.Agrees) (cond y (Ok (variant.Differs place)) (Err (read_refusal v))))
       not-Agrees not-place
-      ∙ ap {B = Replayed} (λ (g : Refusal). variant.Refused g) e
+      ∙ ap {B = Result Replayed Refusal} (λ (g : Refusal). Err g) e
 
   reads : (was : ℕ) → read_replayed (replay_number r) (replay_place was r) ≡ r
   reads was =
-      let Read : Replayed → Type 0 = λ x. read_replayed (replay_number x) (replay_place was x) ≡ x in
+      let Read : Result Replayed Refusal → Type 0 = λ x. read_replayed (replay_number x) (replay_place was x) ≡ x in
       by-test (eqb (number_of (replay_tests c o D b)) 0) _
       (λ t. answered (eqb-true _ 0 t) Read refl (λ p. refl))
       (λ n.
@@ -242,7 +244,7 @@ second-owners : (R : Replay) → BlocksByRule R → second_owners R ≡ 0 ∷ 0 
 second-owners R W =
     let e = (W.differs night o D second_block 1).1 (second_none, second-differs) in
     (W.played night o D second_block second_none).owners
-    ∙ ap (λ (r : Replayed). owners_after (board_in night) o (played_in r second_block)) e ∙ second-plays.1
+    ∙ ap (λ (r : Result Replayed Refusal). owners_after (board_in night) o (played_in r second_block)) e ∙ second-plays.1
 
 apart : (l : List ℕ) → l ≡ 0 ∷ 0 ∷ [] → l ≡ 0 ∷ 1 ∷ [] → ⊥
 apart l p q = let z : ◌≡◌ {A = ℕ} 0 1 = ap (λ (x : List ℕ). get_or x 1 0) (sym p ∙ q) in omega (arith, z)

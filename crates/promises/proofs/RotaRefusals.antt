@@ -12,12 +12,10 @@ use Rattle.paper.specs.declared.Refusal.{Refusal}
 use Rattle.paper.specs.Limits.{people_ok, slot_count_ok, or_else, Test, test, number_of, nobody, counts_ok}
 use Rattle.paper.specs.Count.{fill}
 use Rattle.paper.proofs.Logic.{by-test, slot-count-says}
-use Rattle.paper.specs.Rows.{unless, refusal_of}
+use Rattle.paper.specs.Rows.{unless, refusal_of, answer_refusal}
 use Rattle.slotset.specs.declared.Changed.{Changed}
-use Rattle.slotset.specs.Answers.{sets_row, person_row, changed_as, load_of, number_refusal}
-use Rattle.slotset.proofs.Refusals.{number-said}
-use Rattle.slots.specs.Lent.{minutes_refusal}
-use Rattle.slots.proofs.LentLaws.{minutes-said}
+use Rattle.slotset.specs.Answers.{sets_row, person_row, changed_as, load_of}
+use Rattle.slotset.proofs.Refusals.{answer-said}
 use Rattle.targets.specs.Outcome as targets
 use Rattle.targets.proofs.Promises.{number-row, refused-keeps}
 use Rattle.owners.specs.Derived.{Plan, Derived, afresh, unassigned, uncovered}
@@ -113,23 +111,23 @@ empty-refuses P o D =
     outcome-refuses t (state.placeless (number_of t)) o D [] none (afresh P none D) [] refl refl
 
 owner-number : (people slots : ℕ) (o : List ℕ) (k : ℕ)
-    → GivenByTests (state.owner_row people slots o k) (number_refusal (state.owner_is people slots o k))
+    → GivenByTests (state.owner_row people slots o k) (answer_refusal (state.owner_is people slots o k))
 unfolding state.owner_is state.owner_row
-owner-number people slots o k = given-as (state.owner_row people slots o k) _ refl (number-said _ (get_or o k 0))
+owner-number people slots o k = given-as (state.owner_row people slots o k) _ refl (answer-said _ (get_or o k 0))
 
 minutes-number : (people : ℕ) (m : List ℕ) (p : ℕ) → GivenByTests (state.minutes_row people m p)
-    (minutes_refusal (state.minutes_is people m p))
+    (answer_refusal (state.minutes_is people m p))
 unfolding state.minutes_is state.minutes_row
-minutes-number people m p = given-as (state.minutes_row people m p) _ refl (minutes-said _ (get_or m p 0))
+minutes-number people m p = given-as (state.minutes_row people m p) _ refl (answer-said _ (get_or m p 0))
 
 unassigned-number : (people slots : ℕ) (o : List ℕ)
-    → GivenByTests (state.unassigned_row people slots o) (number_refusal (state.unassigned_is people slots o))
+    → GivenByTests (state.unassigned_row people slots o) (answer_refusal (state.unassigned_is people slots o))
 unfolding state.unassigned_is state.unassigned_row
-unassigned-number people slots o = given-as (state.unassigned_row people slots o) _ refl (number-said _ (unassigned slots o))
+unassigned-number people slots o = given-as (state.unassigned_row people slots o) _ refl (answer-said _ (unassigned slots o))
 
-uncovered-number : (P : Plan) (o : List ℕ) → GivenByTests (state.uncovered_row P o) (minutes_refusal (state.uncovered_is P o))
+uncovered-number : (P : Plan) (o : List ℕ) → GivenByTests (state.uncovered_row P o) (answer_refusal (state.uncovered_is P o))
 unfolding state.uncovered_is state.uncovered_row
-uncovered-number P o = given-as (state.uncovered_row P o) _ refl (minutes-said _ (uncovered P o))
+uncovered-number P o = given-as (state.uncovered_row P o) _ refl (answer-said _ (uncovered P o))
 
 -- the empty set of no slots, refused by 1
 abbrev pub refused-set : Changed

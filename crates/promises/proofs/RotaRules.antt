@@ -1,4 +1,5 @@
 -- Demand 2, the rota, by the laws of rota. Assumes nothing.
+use Rattle.std.specs.Prelude.{Ok}
 use mathlib.Core.Path.{◌≡◌, refl, sym, ap, ◌∙◌}
 use mathlib.Core.Bool.{Bool, true, false, cond, ◌&&◌}
 use mathlib.Core.List.{List, []}
@@ -13,19 +14,16 @@ use Rattle.promises.proofs.Numbers.{none-given}
 use Rattle.paper.specs.declared.Refusal.{Refusal}
 use Rattle.paper.specs.Limits.{nobody, slot_count_ok, number_of}
 use Rattle.paper.proofs.Rows.{passed, said}
-use Rattle.paper.specs.Rows.{unless, accepted}
+use Rattle.paper.specs.Rows.{unless, accepted, answer_as, answer_refusal}
 use Rattle.paper.specs.Count.{all, sum, count, fill}
 use Rattle.paper.proofs.Logic.{by-test, five, both, and-true, zero_of, slot-count-says}
 use Rattle.paper.proofs.Count.{all-each, get_d-over-out, length-fill, get_d-fill-in, get_d-fill-out}
 use Rattle.slotset.specs.declared.Changed.{Changed}
-use Rattle.slotset.specs.declared.Number.TheVariants as number
 use Rattle.slotset.specs.Slots.{slot}
-use Rattle.slotset.specs.Answers.{person_row, row_slots, slots_of, number_as, number_refusal, changed_as, load_of}
-use Rattle.slotset.proofs.Refusals.{number-said}
+use Rattle.slotset.specs.Answers.{person_row, row_slots, slots_of, changed_as, load_of}
 use Rattle.slotset.proofs.Puts.{slot_lt}
-use Rattle.slots.specs.declared.Minutes.TheVariants as minutes
-use Rattle.slots.specs.Lent.{slot_room_ok, minutes_at, minutes_as, minutes_refusal}
-use Rattle.slots.proofs.LentLaws.{minutes-said}
+use Rattle.slotset.proofs.Refusals.{answer-said}
+use Rattle.slots.specs.Lent.{slot_room_ok, minutes_at}
 use Rattle.units.specs.Units.{unit_start, units_ok, InUnit}
 use Rattle.units.proofs.Units.{unit-within}
 use Rattle.owners.specs.Derived.{Plan, Derived, portion, worked, unassigned, uncovered, total_of, held, afresh}
@@ -288,32 +286,28 @@ module _ (P : Plan) (o : List ℕ) (D : Derived) (e : (emptied P o D).refusal.nu
 
 -- ---- the readers
 
-number-given : (n k : ℕ) → number_refusal (number_as n k) ≡ 0 → number_as n k ≡ number.Is k
-unfolding number_as unless
-number-given n k e = ap (λ (m : ℕ). number_as m k) (sym (number-said n k) ∙ e)
+number-given : (n k : ℕ) → answer_refusal (answer_as n k) ≡ 0 → answer_as n k ≡ Ok k
+unfolding answer_as unless
+number-given n k e = ap (λ (m : ℕ). answer_as m k) (sym (answer-said n k) ∙ e)
 
-minutes-given : (n m : ℕ) → minutes_refusal (minutes_as n m) ≡ 0 → minutes_as n m ≡ minutes.Is m
-unfolding minutes_as
-minutes-given n m e = ap (λ (x : ℕ). minutes_as x m) (sym (minutes-said n m) ∙ e)
-
-owner-is : (people slots : ℕ) (o : List ℕ) (k : ℕ) → number_refusal (owner_is people slots o k) ≡ 0
-    → owner_is people slots o k ≡ number.Is (get_or o k 0)
+owner-is : (people slots : ℕ) (o : List ℕ) (k : ℕ) → answer_refusal (owner_is people slots o k) ≡ 0
+    → owner_is people slots o k ≡ Ok (get_or o k 0)
 unfolding owner_is
 owner-is people slots o k e = number-given _ (get_or o k 0) e
 
-minutes-of-is : (people : ℕ) (m : List ℕ) (p : ℕ) → minutes_refusal (minutes_is people m p) ≡ 0 → minutes_is people m p ≡
-    minutes.Is (get_or m p 0)
+minutes-of-is : (people : ℕ) (m : List ℕ) (p : ℕ) → answer_refusal (minutes_is people m p) ≡ 0 → minutes_is people m p ≡
+    Ok (get_or m p 0)
 unfolding minutes_is
-minutes-of-is people m p e = minutes-given _ (get_or m p 0) e
+minutes-of-is people m p e = number-given _ (get_or m p 0) e
 
-unassigned-is : (people slots : ℕ) (o : List ℕ) → number_refusal (unassigned_is people slots o) ≡ 0
-    → unassigned_is people slots o ≡ number.Is (count slots (λ k. eqb (get_or o k 0) nobody))
+unassigned-is : (people slots : ℕ) (o : List ℕ) → answer_refusal (unassigned_is people slots o) ≡ 0
+    → unassigned_is people slots o ≡ Ok (count slots (λ k. eqb (get_or o k 0) nobody))
 unfolding unassigned_is unassigned
 unassigned-is people slots o e = number-given _ (unassigned slots o) e
 
-uncovered-is : (P : Plan) (o : List ℕ) → minutes_refusal (uncovered_is P o) ≡ 0 → uncovered_is P o ≡ minutes.Is (worked P o nobody)
+uncovered-is : (P : Plan) (o : List ℕ) → answer_refusal (uncovered_is P o) ≡ 0 → uncovered_is P o ≡ Ok (worked P o nobody)
 unfolding uncovered_is uncovered
-uncovered-is P o e = minutes-given _ (worked P o nobody) e
+uncovered-is P o e = number-given _ (worked P o nobody) e
 
 module _ (people slots : ℕ) (ws : List ℕ) (p : ℕ) where
   loaded : slot_count_ok slots ≡ true → slots_of_is people slots ws p ≡ load_of ws people p slots

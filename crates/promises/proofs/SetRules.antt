@@ -1,4 +1,5 @@
 -- Demand 2, slot sets, by the laws of slotset. Assumes nothing.
+use Rattle.std.specs.Prelude.{Ok, true, false, Option, Some, None, Result, Err, IsOkAnd}
 use mathlib.Core.Path.{◌≡◌, refl, sym, ap, ap₂, ◌∙◌, subst}
 use mathlib.Core.Bool.{Bool, cond}
 use mathlib.Core.List.{List, [], ◌∷◌}
@@ -8,7 +9,7 @@ use native.Mathlib.Omega.{arith}
 use borrow.Author.Tests.{eq-eqb, eqb-true, ne_eqb, le-leb, lt-ltb}
 use lib.Dec.{eqb}
 use lib.ListN.{length, get_or}
-use Rattle.paper.specs.Rows.{unless}
+use Rattle.paper.specs.Rows.{unless, answer_as}
 use Rattle.paper.specs.Bits.{bit_of}
 use Rattle.paper.specs.Count.{all, among}
 use Rattle.paper.specs.Limits.{number_of}
@@ -16,20 +17,13 @@ use Rattle.paper.proofs.Logic.{by-test, and-true, zero_of, lt-or-ge}
 use Rattle.paper.proofs.Count.{each_all, all-each, all-fails}
 use Rattle.paper.proofs.Rows.{worked}
 use Rattle.slotset.specs.declared.SlotSet.{SlotSet}
-use Rattle.slotset.specs.declared.Found.{Found}
-use Rattle.slotset.specs.declared.Found.TheVariants.{At, Nothing, Refused}
 use Rattle.slotset.specs.declared.Run.{Run}
 use Rattle.slotset.specs.declared.Run.TheVariants as run
-use Rattle.slotset.specs.declared.YesNo.TheVariants.{Yes, No}
-use Rattle.slotset.specs.declared.NextRun.{NextRun}
-use Rattle.slotset.specs.declared.NextRun.TheVariants as next_run
-use Rattle.slotset.specs.declared.NextMember.TheVariants as next_member
-use Rattle.slotset.specs.declared.Number.TheVariants as number
 use Rattle.slotset.specs.Slots.{Bits, slot, put_slot, put_slots, has, Member, size, has_no_member, same_slots}
 use Rattle.slotset.specs.Search.{next_with, last_below, next_set, First, Last}
 use Rattle.slotset.specs.Runs.{first_around, last_around, Around, end_of, Ends, when_found, runs, ends_of_runs, AreRuns, InRuns, Among}
 use Rattle.slotset.specs.Answers.{length_row, slot_row, stretch_row, person_row, person_stretch_row, slots_of, row_slots, same_sets}
-use Rattle.slotset.specs.Answers.{found_as, yes_no_as, stretch_as, run_as, Holds, number_as, empty_set}
+use Rattle.slotset.specs.Answers.{stretch_as, run_at, run_as, Holds, empty_set}
 use Rattle.slotset.specs.Answers.{run_step, next_run_as, member_step, next_member_as, changed_as, new_of, put_of, stretch_of, load_of}
 use Rattle.slotset.specs.Answers.{store_of, row_stretch_of, cleared_row}
 use Rattle.slotset.proofs.Puts.{slot_lt, slot-puts, slot-puts-other, puts_none, slot-loaded, slot-none}
@@ -44,40 +38,53 @@ use Rattle.runs.specs.Listed.{runs_row, column, all_runs_of}
 use Rattle.runs.proofs.Listing.{list-says, column-at, column-stays}
 use Rattle.promises.specs.SetRules.{TheOne, Put, Changes, first_ahead, FrontOf, SameAnswers, SetsByRule}
 
-next-found : (v : ℕ) (f : ℕ → ℕ) (len from : ℕ) → TheOne (First v f len from) (found_as 0 (next_with v f len from))
-unfolding found_as unless
-next-found v f len from = record { meets = next-is v f len from; only = next-unique v f len from }
+-- an answer that is worked out meets a statement, and no other answer does
+the-answer : {A : Type 0} (P : A → Type 0) (x : A) → P x → ((y : A) → P y → y ≡ x) → TheOne (λ (r : Result A ℕ). IsOkAnd r P) (answer_as 0 x)
+unfolding answer_as unless
+the-answer {A} P x m o = record { meets = m; only = only }
+  where
+    only : (r : Result A ℕ) → IsOkAnd r P → r ≡ Ok x
+    only (Ok y) h = ap Ok (o y h)
+    only (Err n) h = absurd h
 
-last_found : (v : ℕ) (f : ℕ → ℕ) (len end : ℕ) → TheOne (Last v f len end) (found_as 0 (last_below v f len end))
-unfolding found_as unless
-last_found v f len end = record { meets = last-is v f len end; only = last-unique v f len end }
+next-found : (v : ℕ) (f : ℕ → ℕ) (len from : ℕ) → TheOne (λ r. IsOkAnd r (First v f len from)) (answer_as 0 (next_with v f len from))
+next-found v f len from = the-answer (First v f len from) (next_with v f len from) (next-is v f len from) (next-unique v f len from)
+
+last_found : (v : ℕ) (f : ℕ → ℕ) (len end : ℕ) → TheOne (λ r. IsOkAnd r (Last v f len end)) (answer_as 0 (last_below v f len end))
+last_found v f len end = the-answer (Last v f len end) (last_below v f len end) (last-is v f len end) (last-unique v f len end)
 
 -- ---- the lookup
 
 module _ (f : ℕ → ℕ) (bits : Bits f) (len i : ℕ) where
-  run-found : TheOne (Holds f len i) (run_as 0 f len i)
-  run-found = record { meets = lookup-is f len i bits; only = lookup-unique f len i bits }
+  run-found : TheOne (λ r. IsOkAnd r (Holds f len i)) (run_as 0 f len i)
+  run-found = the-answer (Holds f len i) (run_at f len i) (lookup-is f len i bits) (lookup-unique f len i bits)
 
   -- what an answer that is known says
-  says : (r : Run) → run_as 0 f len i ≡ r → Holds f len i r
-  says r e = subst (Holds f len i) e (lookup-is f len i bits)
+  says : (r : Run) → run_as 0 f len i ≡ Ok r → Holds f len i r
+  unfolding answer_as unless
+  says r e = subst (λ (x : Result Run ℕ). IsOkAnd x (Holds f len i)) e (lookup-is f len i bits)
 
-  run-when : ((a : ℕ) × (b : ℕ) × (run_as 0 f len i ≡ run.Span a b)) ↔ Member f len i
+  -- what is known of the lookup, as it is answered
+  looked : (r : Run) → run_at f len i ≡ r → run_as 0 f len i ≡ Ok r
+  unfolding answer_as unless
+  looked r e = ap Ok e
+
+  run-when : ((a : ℕ) × (b : ℕ) × (run_as 0 f len i ≡ Ok (run.Span a b))) ↔ Member f len i
   run-when = (
     λ x. around-slot f len i 1 x.0 x.1 (says (run.Span x.0 x.1) x.2),
-    λ m. (first_around 1 f len i, last_around 1 f len i, answers-run f len i m),
+    λ m. (first_around 1 f len i, last_around 1 f len i, looked _ (answers-run f len i m)),
   )
 
-  hole-when : ((a : ℕ) × (b : ℕ) × (run_as 0 f len i ≡ run.Hole a b)) ↔ ((i < len) × (f i ≡ 0))
+  hole-when : ((a : ℕ) × (b : ℕ) × (run_as 0 f len i ≡ Ok (run.Hole a b))) ↔ ((i < len) × (f i ≡ 0))
   hole-when = (
     λ x. around-slot f len i 0 x.0 x.1 (says (run.Hole x.0 x.1) x.2),
-    λ m. (first_around 0 f len i, last_around 0 f len i, answers-hole f len i m),
+    λ m. (first_around 0 f len i, last_around 0 f len i, looked _ (answers-hole f len i m)),
   )
 
-  outside-when : (run_as 0 f len i ≡ run.Outside) ↔ (len ≤ i)
-  outside-when = (says run.Outside, answers-outside f len i)
+  outside-when : (run_as 0 f len i ≡ Ok run.Outside) ↔ (len ≤ i)
+  outside-when = (says run.Outside, λ h. looked _ (answers-outside f len i h))
 
-  whole-hole : ((k : ℕ) → Member f len k → ⊥) → i < len → run_as 0 f len i ≡ run.Hole 0 (len - 1)
+  whole-hole : ((k : ℕ) → Member f len k → ⊥) → i < len → run_as 0 f len i ≡ Ok (run.Hole 0 (len - 1))
   whole-hole none h =
       let x : Around 0 f len i 0 (len - 1) = record {
         from = omega arith;
@@ -87,7 +94,7 @@ module _ (f : ℕ → ℕ) (bits : Bits f) (len i : ℕ) where
         left = λ p. let z : ⊥ = omega arith in absurd z;
         right = λ p. let z : ⊥ = omega arith in absurd z;
       } in
-      sym (lookup-unique f len i bits (run.Hole 0 (len - 1)) x)
+      looked _ (sym (lookup-unique f len i bits (run.Hole 0 (len - 1)) x))
 
 module _ (f : ℕ → ℕ) (bits : Bits f) (len : ℕ) where
   all_are : AreRuns f len 0 (ends_of_runs f len)
@@ -100,7 +107,7 @@ module _ (f : ℕ → ℕ) (bits : Bits f) (len : ℕ) where
   runs-members k = (runs-only f bits len 0 (ends_of_runs f len) all_are k, runs-hold f bits len 0 (ends_of_runs f len) all_are k (omega arith))
 
   -- the lookup's runs are those of the list
-  looked-up : (i a b : ℕ) → (run_as 0 f len i ≡ run.Span a b) ↔ (Among a b (ends_of_runs f len) × (a ≤ i) × (i ≤ b))
+  looked-up : (i a b : ℕ) → (run_as 0 f len i ≡ Ok (run.Span a b)) ↔ (Among a b (ends_of_runs f len) × (a ≤ i) × (i ≤ b))
   looked-up i a b = (
     λ e.
         let x = says f bits len i (run.Span a b) e in
@@ -112,48 +119,48 @@ module _ (f : ℕ → ℕ) (bits : Bits f) (len : ℕ) where
           x.from,
           x.to,
         ),
-    λ h. sym (lookup-unique f len i bits (run.Span a b)
-        (among-around f bits len i a b 0 (ends_of_runs f len) all_are (λ p q u v. let z : ⊥ = omega arith in z) h.0 h.1 h.2)),
+    λ h. looked f bits len i _ (sym (lookup-unique f len i bits (run.Span a b)
+        (among-around f bits len i a b 0 (ends_of_runs f len) all_are (λ p q u v. let z : ⊥ = omega arith in z) h.0 h.1 h.2))),
   )
 
-  counted-members : number_as 0 (size f len) ≡ number.Is (length (among (λ k. eqb (f k) 1) len))
-  unfolding number_as unless
-  counted-members = ap number.Is (size-members f len bits)
+  counted-members : answer_as 0 (size f len) ≡ Ok (length (among (λ k. eqb (f k) 1) len))
+  unfolding answer_as unless
+  counted-members = ap Ok (size-members f len bits)
 
 -- ---- membership
 
-contains-yes : (f : ℕ → ℕ) (len i : ℕ) → Member f len i → yes_no_as 0 (has f len i) ≡ Yes
-unfolding yes_no_as unless
-contains-yes f len i m = ap (λ (b : Bool). cond b Yes No) (member-has f len i m)
+contains-yes : (f : ℕ → ℕ) (len i : ℕ) → Member f len i → answer_as 0 (has f len i) ≡ (Ok true)
+unfolding answer_as unless
+contains-yes f len i m = ap Ok (member-has f len i m)
 
-contains-no : (f : ℕ → ℕ) (len i : ℕ) → (Member f len i → ⊥) → yes_no_as 0 (has f len i) ≡ No
-unfolding yes_no_as unless
+contains-no : (f : ℕ → ℕ) (len i : ℕ) → (Member f len i → ⊥) → answer_as 0 (has f len i) ≡ (Ok false)
+unfolding answer_as unless
 contains-no f len i h =
-    by-test (has f len i) _ (λ t. absurd (h (has-member f len i t))) (λ e. ap (λ (b : Bool). cond b Yes No) e)
+    by-test (has f len i) _ (λ t. absurd (h (has-member f len i t))) (λ e. ap Ok e)
 
-empty-yes : (f : ℕ → ℕ) → Bits f → (len : ℕ) → ((i : ℕ) → Member f len i → ⊥) → yes_no_as 0 (has_no_member f len) ≡ Yes
-unfolding yes_no_as has_no_member unless
+empty-yes : (f : ℕ → ℕ) → Bits f → (len : ℕ) → ((i : ℕ) → Member f len i → ⊥) → answer_as 0 (has_no_member f len) ≡ (Ok true)
+unfolding answer_as has_no_member unless
 empty-yes f bits len h =
-    ap (λ (b : Bool). cond b Yes No)
+    ap Ok
     (each_all len (λ k. eqb (f k) 0) (λ k l. eq-eqb (f k) 0 (zero_of (f k) (bits k) (λ q. h k (l, q)))))
 
-empty-refusal : (f : ℕ → ℕ) (len i : ℕ) → Member f len i → yes_no_as 0 (has_no_member f len) ≡ No
-unfolding yes_no_as has_no_member unless
+empty-refusal : (f : ℕ → ℕ) (len i : ℕ) → Member f len i → answer_as 0 (has_no_member f len) ≡ (Ok false)
+unfolding answer_as has_no_member unless
 empty-refusal f len i m =
-    ap (λ (b : Bool). cond b Yes No)
+    ap Ok
     (all-fails len i (λ k. eqb (f k) 0) m.0 (ne_eqb (f i) 0 (λ q. omega (arith, q, m.1))))
 
 -- ---- readers
 
 module _ (f : ℕ → ℕ) (len at : ℕ) where
   -- the answers, by the member that is found
-  run_at : (x : Found) → First 1 f len at x → next_run_as 0 f len at ≡ run_step f len x
-  unfolding next_run_as unless
-  run_at x w = ap (run_step f len) (sym (next-unique 1 f len at x w))
+  run-at : (x : Option ℕ) → First 1 f len at x → next_run_as 0 f len at ≡ Ok (run_step f len x)
+  unfolding answer_as unless
+  run-at x w = ap (λ (y : Option ℕ). Ok (run_step f len y)) (sym (next-unique 1 f len at x w))
 
-  member-at : (x : Found) → First 1 f len at x → next_member_as 0 f len at ≡ member_step x
-  unfolding next_member_as unless
-  member-at x w = ap member_step (sym (next-unique 1 f len at x w))
+  member-at : (x : Option ℕ) → First 1 f len at x → next_member_as 0 f len at ≡ Ok (member_step x)
+  unfolding answer_as unless
+  member-at x w = ap (λ (y : Option ℕ). Ok (member_step y)) (sym (next-unique 1 f len at x w))
 
   -- a run that starts at slot `first` ends before the next unset slot
   run_end : Bits f → (first last : ℕ) → first ≤ last → last < len → ((k : ℕ) → first ≤ k → k ≤ last → f k ≡ 1)
@@ -163,21 +170,21 @@ module _ (f : ℕ → ℕ) (len at : ℕ) where
       omega (arith, z, all k (omega arith) (omega arith)) in
       ⊎_elim
       (λ (g : last + 1 < len).
-      let w : First 0 f len (suc first) (At (last + 1)) =
+      let w : First 0 f len (suc first) (Some (last + 1)) =
       (omega arith, g, zero_of (f (last + 1)) (bits (last + 1)) (stop g), set_before) in
       let e : last + 1 - 1 ≡ last = omega arith in
-      ap (end_of len) (sym (next-unique 0 f len (suc first) (At (last + 1)) w)) ∙ e)
+      ap (end_of len) (sym (next-unique 0 f len (suc first) (Some (last + 1)) w)) ∙ e)
       (λ (g : len ≤ last + 1).
-      let w : First 0 f len (suc first) Nothing = λ k a b. set_before k a (omega arith) in
+      let w : First 0 f len (suc first) None = λ k a b. set_before k a (omega arith) in
       let e : len - 1 ≡ last = omega arith in
-      ap (end_of len) (sym (next-unique 0 f len (suc first) Nothing w)) ∙ e)
+      ap (end_of len) (sym (next-unique 0 f len (suc first) None w)) ∙ e)
       (lt-or-ge (last + 1) len)
 
-  next-run-is : Bits f → (l : List Ends) → AreRuns f len at l → next_run_as 0 f len at ≡ first_ahead l
-  next-run-is bits [] x = run_at Nothing x
+  next-run-is : Bits f → (l : List Ends) → AreRuns f len at l → next_run_as 0 f len at ≡ Ok (first_ahead l)
+  next-run-is bits [] x = run-at None x
   next-run-is bits (r ∷ rs) x =
-      run_at (At r.first) (x.0, omega (arith, x.1, x.2), x.4 r.first (omega arith) x.1, x.3)
-      ∙ ap (λ (e : ℕ). next_run.Span r.first e (record { at = e + 1 }))
+      run-at (Some r.first) (x.0, omega (arith, x.1, x.2), x.4 r.first (omega arith) x.1, x.3)
+      ∙ ap (λ (e : ℕ). Ok (Some (record { first = r.first; last = e; next = record { at = e + 1 } })))
       (run_end bits r.first r.last x.1 x.2 x.4 x.5)
 
 -- ---- all runs, listed
@@ -188,12 +195,11 @@ unfolding runs
 runs-few f len zero at = omega arith
 runs-few f len (suc n) at = found-few (runs-few f len n) (next_set f len at)
   where
-    found-few : ((i : ℕ) → length (runs n f len i) ≤ n) → (x : Found)
+    found-few : ((i : ℕ) → length (runs n f len i) ≤ n) → (x : Option ℕ)
         → length
         (when_found x (λ lo. record { first = lo; last = last_around 1 f len lo } ∷ runs n f len (last_around 1 f len lo + 1))) ≤ suc n
-    found-few few (At lo) = omega (arith, few (last_around 1 f len lo + 1))
-    found-few few Nothing = omega arith
-    found-few few (Refused k) = omega arith
+    found-few few (Some lo) = omega (arith, few (last_around 1 f len lo + 1))
+    found-few few None = omega arith
 
 front_of : (end : Ends → ℕ) (l : List Ends) (n : ℕ) (c : List ℕ) → n ≡ 0 → length l ≤ length c
     → FrontOf end l c (unless n c (column end l 0 c))
@@ -210,14 +216,14 @@ all-runs-listed : (ws : List ℕ) (people person len : ℕ) (firsts lasts : List
     → number_of (runs_row ws people person len (length firsts) (length lasts)) ≡ 0
     → let x = all_runs_of ws people person len firsts lasts in
     let l = ends_of_runs (row_slots ws person) len in
-    (x.answer ≡ number.Is (length l)) × FrontOf (λ r. r.first) l firsts x.firsts × FrontOf (λ r. r.last) l lasts x.lasts
-unfolding number_as unless
+    (x.answer ≡ Ok (length l)) × FrontOf (λ r. r.first) l firsts x.firsts × FrontOf (λ r. r.last) l lasts x.lasts
+unfolding answer_as unless
 all-runs-listed ws people person len firsts lasts e =
     let l = ends_of_runs (row_slots ws person) len in
     let n = number_of (runs_row ws people person len (length firsts) (length lasts)) in
     let few = runs-few (row_slots ws person) len len 0 in
     let r = list-says ws people person len (length firsts) (length lasts) e in (
-      ap (λ (x : ℕ). number_as x (length l)) e,
+      ap (λ (x : ℕ). answer_as x (length l)) e,
       front_of (λ r. r.first) l n firsts e (omega (arith, few, r.1.0)),
       front_of (λ r. r.last) l n lasts e (omega (arith, few, r.1.1)),
     )
@@ -351,13 +357,13 @@ row-bit ws person i = refl
 -- ---- everybody's sets compared
 
 same-answered : (ws vs : List ℕ) (people len : ℕ)
-    → (yes_no_as 0 (same_sets ws vs people len) ≡ Yes) ↔ ((p k : ℕ) → p < people → k < len → row_slots ws p k ≡ row_slots vs p k)
-unfolding yes_no_as unless same_sets same_slots
+    → (answer_as 0 (same_sets ws vs people len) ≡ (Ok true)) ↔ ((p k : ℕ) → p < people → k < len → row_slots ws p k ≡ row_slots vs p k)
+unfolding answer_as unless same_sets same_slots
 same-answered ws vs people len = (
   λ e p k h l. by-test (all people same) _
       (λ t. eqb-true _ _ (all-each len (λ i. eqb (row_slots ws p i) (row_slots vs p i)) (all-each people same t p h) k l))
-      (λ f. let q : No ≡ Yes = sym (ap (λ (b : Bool). cond b Yes No) f) ∙ e in let z : ◌≡◌ {A = ℕ} 0 1 = cc in absurd (omega arith)),
-  λ f. ap (λ (b : Bool). cond b Yes No)
+      (λ f. let q : (Ok false) ≡ (Ok true) = sym (ap Ok f) ∙ e in let z : ◌≡◌ {A = ℕ} 0 1 = cc in absurd (omega arith)),
+  λ f. ap Ok
       (each_all people same (λ p h. each_all len (λ i. eqb (row_slots ws p i) (row_slots vs p i)) (λ k l. eq-eqb _ _ (f p k h l)))),
 )
   where
@@ -373,7 +379,7 @@ module _ (f g : ℕ → ℕ) (len : ℕ) (same : (k : ℕ) → k < len → f k �
       let r = around-same f g len same v i in
       ap₂ (λ (a b : ℕ). cond (eqb v 1) (run.Span a b) (run.Hole a b)) r.0 r.1
 
-  answered-same : (i : ℕ) → run_as 0 f len i ≡ run_as 0 g len i
+  answered-same : (i : ℕ) → run_at f len i ≡ run_at g len i
   answered-same i =
       ⊎_elim
       (λ (h : i < len).
@@ -382,25 +388,21 @@ module _ (f g : ℕ → ℕ) (len : ℕ) (same : (k : ℕ) → k < len → f k �
       (lt-or-ge i len)
 
   run-answers : (n i : ℕ) → run_as n f len i ≡ run_as n g len i
-  unfolding run_as unless
-  run-answers n i = ap (λ (x : Run). unless n (run.Refused n) x) (answered-same i)
+  run-answers n i = ap (answer_as n) (answered-same i)
 
-  steps-same : (x : Found) → run_step f len x ≡ run_step g len x
-  steps-same (At i) =
-      ap (λ (e : ℕ). next_run.Span i e (record { at = e + 1 })) (around-same f g len same 1 i).1
-  steps-same Nothing = refl
-  steps-same (Refused n) = refl
+  steps-same : (x : Option ℕ) → run_step f len x ≡ run_step g len x
+  steps-same (Some i) =
+      ap (λ (e : ℕ). Some (record { first = i; last = e; next = record { at = e + 1 } })) (around-same f g len same 1 i).1
+  steps-same None = refl
 
   next-run-answers : (n at : ℕ) → next_run_as n f len at ≡ next_run_as n g len at
-  unfolding next_run_as unless
   next-run-answers n at =
-      ap (λ (x : NextRun). unless n (next_run.Refused n) x)
+      ap (answer_as n)
       (steps-same (next_set f len at) ∙ ap (run_step g len) (next-same 1 f g len at same))
 
   next-member-answers : (n at : ℕ) → next_member_as n f len at ≡ next_member_as n g len at
-  unfolding next_member_as unless
   next-member-answers n at =
-      ap (λ (x : Found). unless n (next_member.Refused n) (member_step x)) (next-same 1 f g len at same)
+      ap (λ (x : Option ℕ). answer_as n (member_step x)) (next-same 1 f g len at same)
 
   same-answers : SameAnswers f g len
   same-answers = record {
@@ -414,6 +416,10 @@ module _ (f g : ℕ → ℕ) (len : ℕ) (same : (k : ℕ) → k < len → f k �
     next-member = next-member-answers;
     runs = all-runs-same f g len same;
   }
+
+no-slot-held : (f : ℕ → ℕ) (i : ℕ) → run_as 0 f 0 i ≡ Ok run.Outside
+unfolding answer_as unless
+no-slot-held f i = ap Ok (answers-outside f 0 i (omega arith))
 
 pub sets-by-rule : SetsByRule
 sets-by-rule = record {
@@ -432,10 +438,10 @@ sets-by-rule = record {
   is-hole = hole-when;
   is-outside = outside-when;
   empty-hole = whole-hole;
-  no-slots = λ f i. answers-outside f 0 i (omega arith);
+  no-slots = no-slot-held;
   next-run = λ f bits len at l x. next-run-is f len at bits l x;
-  next-member = λ f len at i w. member-at f len at (At i) w;
-  no_member = λ f len at w. member-at f len at Nothing w;
+  next-member = λ f len at i w. member-at f len at (Some i) w;
+  no_member = λ f len at w. member-at f len at None w;
   runs = runs-found;
   runs-hold = runs-members;
   runs-looked-up = looked-up;

@@ -1,4 +1,5 @@
 -- What splitting leaves, base slot by base slot. Assumes nothing.
+use Rattle.std.specs.Prelude.{Ok}
 use mathlib.Core.Path.{◌≡◌, refl, sym, ap, ◌∙◌}
 use mathlib.Core.Bool.{Bool}
 use mathlib.Core.List.{List, [], ◌∷◌, ◌++◌}
@@ -6,7 +7,6 @@ use Prim.Native.Nat.{ℕ, zero, suc, ◌-◌, ◌<◌}
 use native.Mathlib.Omega.{arith}
 use lib.ListN.{length, get_or}
 use Rattle.paper.specs.Limits.{number_of}
-use Rattle.slotset.specs.declared.Number.TheVariants as number
 use Rattle.slots.specs.Atomic.{Base, atomise_row, is_cut, IsCuts, starts_of_atoms, ends_of_atoms}
 use Rattle.slots.proofs.SplitLaws as laws
 use Rattle.promises.specs.SplitRule.{strung, CutsOf, lengths, LeavesPieces, SplitAtCuts}
@@ -44,7 +44,7 @@ module _ (B : Base) (e : number_of (atomise_row B) ≡ 0) (c : ℕ → List ℕ)
   leaves-pieces =
       let s = slots-by-rule.split B e in
       record {
-        number = s.number ∙ ap (λ (l : List ℕ). number.Is (length l)) (sym starts-are);
+        number = s.number ∙ ap (λ (l : List ℕ). Ok (length l)) (sym starts-are);
         starts = λ i h.
             s.starts i (omega (arith, h, ap length starts-are)) ∙ ap (λ (l : List ℕ). get_or l i 0) (sym starts-are);
         ends = λ i h.

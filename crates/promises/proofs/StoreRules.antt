@@ -1,4 +1,5 @@
 -- A store of settings meets its rules. Assumes nothing.
+use Rattle.std.specs.Prelude.{Result, Ok, Err}
 use mathlib.Core.Path.{◌≡◌, refl, sym, ap, ap₂, ◌∙◌, subst}
 use mathlib.Core.Bool.{Bool, true, false, cond}
 use mathlib.Core.List.{List, [], ◌∷◌, ◌++◌, append_assoc}
@@ -10,11 +11,11 @@ use lib.Dec.{leb, eqb}
 use lib.ListN.{length, get_or, take, length-append, get_or-append, get_or-eq_default}
 use lib.Seq.{get_or-append-add, get_or-take}
 use Rattle.paper.specs.Limits.{Test, test, number_of}
+use Rattle.paper.specs.Rows.{answer_as, answer_refusal}
 use Rattle.paper.proofs.Logic.{by-test, lt-or-ge}
 use Rattle.paper.proofs.Rows.{kept, worked}
 use Rattle.paper.proofs.Refusals.{number-pass, number-fail}
-use Rattle.slotset.specs.declared.Number.TheVariants as number
-use Rattle.slotset.proofs.Refusals.{number-said}
+use Rattle.slotset.proofs.Refusals.{answer-said}
 use Rattle.units.specs.declared.Settings.{Settings}
 use Rattle.units.specs.Settings.{settings_ok}
 use Rattle.records.specs.Fields.{Bytes}
@@ -22,12 +23,11 @@ use Rattle.records.specs.Records.{Rec, record_of, file_of}
 use Rattle.job.specs.Outcome.{Lowest, AllPass}
 use Rattle.job.proofs.Tests.{number-none, number-lowest}
 use Rattle.store.specs.declared.Saved.{Saved}
-use Rattle.store.specs.declared.Saved.TheVariants as saved
 use Rattle.store.specs.declared.Asked.{Asked}
 use Rattle.store.specs.declared.Asked.TheVariants as asked
 use Rattle.store.specs.Layout.{is_store, count_in, StoreOf}
 use Rattle.store.specs.Figures.{figures_of, kept_of, settings_record}
-use Rattle.store.specs.Outcome.{layout_ok, store_row, save_row, ask_row, count_is, save_is, ask_is, saved_refusal, judged}
+use Rattle.store.specs.Outcome.{layout_ok, store_row, save_row, ask_row, count_is, save_is, ask_is, judged}
 use Rattle.store.proofs.Outcomes.{layout-held, save-passed, save-room}
 use Rattle.store.proofs.Reading.{kept-newer, kept-figures}
 use Rattle.store.proofs.Stores.{ok-store, store_ok, store-count, saved-kept}
@@ -66,14 +66,14 @@ used-bytes area used b k =
     take_short (suc n) [] = omega arith
     take_short (suc n) (v ∷ l) = omega (arith, take_short n l)
 
-refused-kept : (area : List ℕ) (used : ℕ) (s : Settings) (m : ℕ) → (save_is area used s).answer ≡ saved.Refused m → (save_is area used s).area ≡ area
-unfolding save_is
+refused-kept : (area : List ℕ) (used : ℕ) (s : Settings) (m : ℕ) → (save_is area used s).answer ≡ Err m → (save_is area used s).area ≡ area
+unfolding save_is answer_as
 refused-kept area used s m e =
     let n = number_of (save_row area used s) in
-    let done : Saved = saved.As (count_in (take used area) + 1) (used + 12) in
+    let done : Result Saved ℕ = Ok (record { number = count_in (take used area) + 1; used = used + 12 }) in
     by-test (eqb n 0) _
     (λ t.
-    let q : done ≡ saved.Refused m = sym (worked n (saved.Refused n) done (eqb-true n 0 t)) ∙ e in
+    let q : done ≡ Err m = sym (worked n (Err n) done (eqb-true n 0 t)) ∙ e in
     absurd (let z : ◌≡◌ {A = ℕ} 0 1 = cc in omega arith))
     (λ f. kept n area _ (borrow.Author.Tests.eqb-false n 0 f))
 
@@ -107,7 +107,7 @@ pub store-refuses : StoreRefuses
 unfolding count_is store_row save_row ask_row
 store-refuses = record {
   count = λ area used m.
-      by_tests (store_row area used) _ m (number-said _ _) (number-lowest 0 (store_row area used) (omega arith, (omega arith, tt))
+      by_tests (store_row area used) _ m (answer-said _ _) (number-lowest 0 (store_row area used) (omega arith, (omega arith, tt))
       (omega arith, (omega arith, tt)) m);
   save = λ area used s m.
       by_tests (save_row area used s) _ m (saved-number area used s) (number-lowest 0 (save_row area used s)
@@ -123,7 +123,7 @@ store-refuses = record {
       (number-none (ask_row area used n) (omega arith, (omega arith, (omega arith, (omega arith, tt)))));
   kept = refused-kept;
   count-broken = λ area used b.
-      both_ways (same_number _ _ (number-said _ _))
+      both_ways (same_number _ _ (answer-said _ _))
       (both_ways (thirteen (layout_ok area used) (test 2 (leb used (length area)) ∷ [])
       (λ e. let q = two-tests (leb used (length area)) 2 e in omega arith)) (broken area used b));
   save-broken = λ area used s b.
@@ -132,12 +132,12 @@ store-refuses = record {
   ask-broken = λ area used n b.
       both_ways (same_number _ _ (asked-number area used n))
       (both_ways (thirteen (layout_ok area used) _ (three-tests _ _ _ 7 11 (λ e. omega arith) (λ e. omega arith))) (broken area used b));
-  one-outcome = λ w x y p q. ap₂ {C = Saved × List ℕ} (λ (a : Saved) (l : List ℕ). (a, l)) (p.said ∙ sym q.said) (p.left ∙ sym q.left);
+  one-outcome = λ w x y p q. ap₂ {C = Result Saved ℕ × List ℕ} (λ (a : Result Saved ℕ) (l : List ℕ). (a, l)) (p.said ∙ sym q.said) (p.left ∙ sym q.left);
 }
 
 -- ---- what is read
 
-judged-newer : (r : Rec) → (judged (kept_of r) ≡ asked.Newer) ↔ (33 < r.kind)
+judged-newer : (r : Rec) → (judged (kept_of r) ≡ Ok asked.Newer) ↔ (33 < r.kind)
 judged-newer r = (
   λ e.
       ⊎_elim (λ (l : 33 < r.kind). l)
@@ -145,31 +145,31 @@ judged-newer r = (
   λ h. ap judged (sym (kept-newer r h)),
 )
   where
-    not-newer : (s : Settings) → cond (settings_ok s) (asked.Is s) (asked.Refused 7) ≡ asked.Newer → ⊥
+    not-newer : (s : Settings) → cond {A = Result Asked ℕ} (settings_ok s) (Ok (asked.Is s)) (Err 7) ≡ Ok asked.Newer → ⊥
     not-newer s e =
         by-test (settings_ok s) _
         (λ t.
-        let q : asked.Is s ≡ asked.Newer = sym (ap (λ (b : Bool). cond b (asked.Is s) (asked.Refused 7)) t) ∙ e in
+        let q : ◌≡◌ {A = Result Asked ℕ} (Ok (asked.Is s)) (Ok asked.Newer) = sym (ap {B = Result Asked ℕ} (λ (b : Bool). cond b (Ok (asked.Is s)) (Err 7)) t) ∙ e in
         let z : ◌≡◌ {A = ℕ} 0 1 = cc in omega arith)
         (λ f.
-        let q : asked.Refused 7 ≡ asked.Newer = sym (ap (λ (b : Bool). cond b (asked.Is s) (asked.Refused 7)) f) ∙ e in
+        let q : ◌≡◌ {A = Result Asked ℕ} (Err 7) (Ok asked.Newer) = sym (ap {B = Result Asked ℕ} (λ (b : Bool). cond b (Ok (asked.Is s)) (Err 7)) f) ∙ e in
         let z : ◌≡◌ {A = ℕ} 0 1 = cc in omega arith)
 
-judged-figures : (r : Rec) (s : Settings) → judged (kept_of r) ≡ asked.Is s → (r.kind ≤ 33) × (s ≡ figures_of r) × (settings_ok s ≡ true)
+judged-figures : (r : Rec) (s : Settings) → judged (kept_of r) ≡ Ok (asked.Is s) → (r.kind ≤ 33) × (s ≡ figures_of r) × (settings_ok s ≡ true)
 judged-figures r s e =
     ⊎_elim
     (λ (l : 33 < r.kind).
-    let q : asked.Newer ≡ asked.Is s = ap judged (kept-newer r l) ∙ e in
+    let q : ◌≡◌ {A = Result Asked ℕ} (Ok asked.Newer) (Ok (asked.Is s)) = ap judged (kept-newer r l) ∙ e in
     absurd (let z : ◌≡◌ {A = ℕ} 0 1 = cc in omega arith))
     (λ (g : r.kind ≤ 33).
     let f = figures_of r in
-    let here : cond (settings_ok f) (asked.Is f) (asked.Refused 7) ≡ asked.Is s = ap judged (kept-figures r g) ∙ e in
+    let here : cond {A = Result Asked ℕ} (settings_ok f) (Ok (asked.Is f)) (Err 7) ≡ Ok (asked.Is s) = ap judged (kept-figures r g) ∙ e in
     by-test (settings_ok f) _
     (λ t.
-    let q : asked.Is f ≡ asked.Is s = sym (ap (λ (b : Bool). cond b (asked.Is f) (asked.Refused 7)) t) ∙ here in
+    let q : ◌≡◌ {A = Result Asked ℕ} (Ok (asked.Is f)) (Ok (asked.Is s)) = sym (ap {B = Result Asked ℕ} (λ (b : Bool). cond b (Ok (asked.Is f)) (Err 7)) t) ∙ here in
     let w : s ≡ f = cc in (g, w, ap settings_ok w ∙ t))
     (λ n.
-    let q : asked.Refused 7 ≡ asked.Is s = sym (ap (λ (b : Bool). cond b (asked.Is f) (asked.Refused 7)) n) ∙ here in
+    let q : ◌≡◌ {A = Result Asked ℕ} (Err 7) (Ok (asked.Is s)) = sym (ap {B = Result Asked ℕ} (λ (b : Bool). cond b (Ok (asked.Is f)) (Err 7)) n) ∙ here in
     absurd (let z : ◌≡◌ {A = ℕ} 0 1 = cc in omega arith)))
     (lt-or-ge 33 r.kind)
 
@@ -205,12 +205,12 @@ earlier-same area left used end rs ts h g S T l same n m =
     ask-record left end ts g T n p (omega arith) ∙ ap (λ (r : Rec). judged (kept_of r)) (same (n - 1) (omega arith))
     ∙ sym (ask-record area used rs h S n p m)) (lt-or-ge n 1)
 
-judged-saved : (s : Settings) → settings_ok s ≡ true → judged (kept_of (settings_record s)) ≡ asked.Is s
-judged-saved s t = ap judged (saved-kept s t) ∙ ap (λ (b : Bool). cond b (asked.Is s) (asked.Refused 7)) t
+judged-saved : (s : Settings) → settings_ok s ≡ true → judged (kept_of (settings_record s)) ≡ Ok (asked.Is s)
+judged-saved s t = ap judged (saved-kept s t) ∙ ap {B = Result Asked ℕ} (λ (b : Bool). cond b (Ok (asked.Is s)) (Err 7)) t
 
 -- over a store of known records
 module _ (area : List ℕ) (used : ℕ) (s : Settings) (m end : ℕ) (rs : List Rec) (S : StoreOf rs (take used area))
-    (e : (save_is area used s).answer ≡ saved.As m end) where
+    (e : (save_is area used s).answer ≡ Ok (record { number = m; used = end })) where
   here : Accepted area used s m end (save_is area used s).area
   here = accepted-says area used s m end e
 
@@ -237,7 +237,7 @@ module _ (area : List ℕ) (used : ℕ) (s : Settings) (m end : ℕ) (rs : List 
         laid = S;
         right = right-after;
         is-next = next-number;
-        counted = count-records left end (rs ++ (r ∷ [])) end-held right-after ∙ ap number.Is (n ∙ sym next-number);
+        counted = count-records left end (rs ++ (r ∷ [])) end-held right-after ∙ ap Ok (n ∙ sym next-number);
         read_back =
             let z : m - 1 ≡ length rs = omega (arith, next-number) in
             ask-record left end (rs ++ (r ∷ [])) end-held right-after m (omega (arith, next-number)) (omega (arith, next-number, n))
@@ -253,7 +253,7 @@ module _ (area : List ℕ) (used : ℕ) (s : Settings) (m end : ℕ) (rs : List 
             (λ (g : end ≤ k). saved-behind area used s m end left here k (omega (arith, here.ends))) o;
       }
 
-saved-rule : (area : List ℕ) (used : ℕ) (s : Settings) (m end : ℕ) → Bytes area → (save_is area used s).answer ≡ saved.As m end
+saved-rule : (area : List ℕ) (used : ℕ) (s : Settings) (m end : ℕ) → Bytes area → (save_is area used s).answer ≡ Ok (record { number = m; used = end })
     → AfterSave area used s m end (save_is area used s).area
 saved-rule area used s m end b e =
     let A = accepted-says area used s m end e in
@@ -311,7 +311,7 @@ many-saves area used rs ss left last h S x =
     let ts = rs ++ records_for ss in
     let n : length ts ≡ length rs + length ss = length-append rs (records_for ss) ∙ ap (λ (m : ℕ). length rs + m) (records-count ss) in
     record {
-      counted = count-records left last ts L.within L.store ∙ ap number.Is n;
+      counted = count-records left last ts L.within L.store ∙ ap Ok n;
       each = λ k l.
           let z : length rs + suc k - 1 ≡ length rs + k = omega arith in
           ask-record left last ts L.within L.store (length rs + suc k) (omega arith) (omega (arith, n))
@@ -347,25 +347,25 @@ stores-by-rule = record {
 
 -- ---- what a C caller takes the answers for
 
-read_asked_lem : (was : Settings) (a : Asked) → read_asked (asked_number a) (figures_left was a) ≡ a
-read_asked_lem was (asked.Is s) = refl
-read_asked_lem was asked.Newer = refl
-read_asked_lem was (asked.Refused n) =
+read_asked_lem : (was : Settings) (a : Result Asked ℕ) → read_asked (asked_number a) (figures_left was a) ≡ a
+read_asked_lem was (Ok (asked.Is s)) = refl
+read_asked_lem was (Ok asked.Newer) = refl
+read_asked_lem was (Err n) =
     let z : 65536 + n - 65536 ≡ n = omega arith in
-    simp (ne_eqb (65536 + n) 0 (λ e. omega arith), ne_eqb (65536 + n) 1 (λ e. omega arith)) (ap asked.Refused z)
+    simp (ne_eqb (65536 + n) 0 (λ e. omega arith), ne_eqb (65536 + n) 1 (λ e. omega arith)) (ap Err z)
 
 read-saved : (area : List ℕ) (used : ℕ) (s : Settings) (m n : ℕ)
-    → let a = (save_is area used s).answer in read_saved (saved_refusal a) (saved_number m a) (saved_used n a) ≡ a
-unfolding save_is
+    → let a = (save_is area used s).answer in read_saved (answer_refusal a) (saved_number m a) (saved_used n a) ≡ a
+unfolding save_is answer_as
 read-saved area used s m n =
     let k = number_of (save_row area used s) in
-    let done : Saved = saved.As (count_in (take used area) + 1) (used + 12) in
-    let Reads : Saved → Type 0 = λ a. read_saved (saved_refusal a) (saved_number m a) (saved_used n a) ≡ a in
+    let done : Result Saved ℕ = Ok (record { number = count_in (take used area) + 1; used = used + 12 }) in
+    let Reads : Result Saved ℕ → Type 0 = λ a. read_saved (answer_refusal a) (saved_number m a) (saved_used n a) ≡ a in
     by-test (eqb k 0) _
-    (λ t. subst Reads (sym (worked k (saved.Refused k) done (eqb-true k 0 t))) refl)
+    (λ t. subst Reads (sym (worked k (Err k) done (eqb-true k 0 t))) refl)
     (λ f.
-    subst Reads (sym (kept k (saved.Refused k) done (borrow.Author.Tests.eqb-false k 0 f)))
-    (ap (λ (b : Bool). cond b (saved.As m n) (saved.Refused k)) f))
+    subst Reads (sym (kept k (Err k) done (borrow.Author.Tests.eqb-false k 0 f)))
+    (ap {B = Result Saved ℕ} (λ (b : Bool). cond b (Ok (record { number = m; used = n })) (Err k)) f))
 
 pub store-read : StoreRead
 store-read = record { save = read-saved; ask = read_asked_lem }

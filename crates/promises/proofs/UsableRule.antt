@@ -1,4 +1,5 @@
 -- A rota made elsewhere: the verdict, shifts, refusals, and that what may be used can be taken over. Assumes nothing.
+use Rattle.std.specs.Prelude.{Result, Ok, Err}
 use mathlib.Core.Path.{◌≡◌, refl, sym, ap, ◌∙◌, subst}
 use mathlib.Core.Bool.{Bool, true, cond}
 use mathlib.Core.List.{List}
@@ -9,13 +10,14 @@ use borrow.Author.Tests.{ne_eqb, eqb-true, le-leb, leb-true, lt-ltb, le-ltb}
 use lib.Dec.{eqb, leb, ltb}
 use lib.ListN.{length, get_or}
 use Rattle.paper.specs.Limits.{nobody, last_minute, people_ok, slot_count_ok, number_of}
-use Rattle.paper.specs.Rows.{unless}
+use Rattle.paper.specs.Rows.{unless, answer_as, answer_refusal}
 use Rattle.paper.specs.Count.{all}
 use Rattle.paper.specs.Bits.{bit_of}
-use Rattle.paper.proofs.Logic.{by_cond, lt-or-ge, both, three, and-true, number-of-made}
+use Rattle.paper.proofs.Logic.{by_cond, lt-or-ge, both, three, and-true}
 use Rattle.paper.proofs.Count.{all-each, each_all}
 use Rattle.paper.proofs.Rows.{all_pass}
 use Rattle.slotset.specs.Slots.{slot}
+use Rattle.slotset.proofs.Refusals.{answer-said}
 use Rattle.slotset.specs.Search.{up, down, next_with, last_below}
 use Rattle.slots.specs.Lent.{slot_room_ok, slots_ok, slot_ok_at, slot_ok, prev_end}
 use Rattle.slots.proofs.LentLaws.{slots-sound}
@@ -29,8 +31,8 @@ use Rattle.owners.proofs.Sets.{held-own, held-not}
 use Rattle.usable.specs.declared.Verdict.{Verdict}
 use Rattle.usable.specs.declared.Verdict.TheVariants as verdict
 use Rattle.usable.specs.Rules.{allowed_at, published_at, uniform_at, opens_at, closes_at, capped_at, rested_at, shift_first, shift_last}
-use Rattle.usable.specs.Broken.{Brought, slots_of, owner_of, Shift, TooClose, AllHold, FirstBroken, Means}
-use Rattle.usable.specs.Answers.{figures_ok, usable_row, or_broken, judged, verdict_is, verdict_refusal}
+use Rattle.usable.specs.Broken.{Brought, slots_of, owner_of, Shift, TooClose, Means}
+use Rattle.usable.specs.Answers.{figures_ok, usable_row, or_broken, judged, verdict_is}
 use Rattle.usable.proofs.ShiftLaws.{held_one, held-zero, around-each, shift-around}
 use Rattle.usable.proofs.Rested.{LastOf, free-is, ends-rise, last-closes}
 use Rattle.usable.proofs.Judged.{Right, row-right, judged-when, judged-holds}
@@ -57,23 +59,11 @@ figures-say cap rest = (
       and-true _ _ (le-leb 1 cap R.some) (and-true _ _ (le-leb cap last_minute R.cap) (le-leb rest last_minute R.rest)),
 )
 
--- a verdict has no number
-number-or : (slots n : ℕ) (p : ℕ → Bool) (v : Verdict) → verdict_refusal v ≡ 0 → verdict_refusal (or_broken slots n p v) ≡ 0
-unfolding or_broken
-number-or slots n p v e =
-    by_cond (all slots p) v (verdict.Broken n (first_fail slots p)) (λ (x : Verdict). verdict_refusal x ≡ 0) (λ t. e) (λ f. refl)
+number-said : (B : Brought) → answer_refusal (verdict_is B) ≡ number_of (usable_row B)
+unfolding verdict_is
+number-said B = answer-said (number_of (usable_row B)) (judged B)
 
-number-none : (B : Brought) → verdict_refusal (judged B) ≡ 0
-unfolding judged
-number-none B =
-    number-or _ 1 _ _ (number-or _ 2 _ _ (number-or _ 3 _ _ (number-or _ 4 _ _ (number-or _ 5 _ verdict.Usable refl))))
-
-number-said : (B : Brought) → verdict_refusal (verdict_is B) ≡ number_of (usable_row B)
-unfolding verdict_is unless
-number-said B =
-    number-of-made verdict_refusal (number_of (usable_row B)) (judged B) (verdict.Refused (number_of (usable_row B))) (number-none B) refl
-
-refuses : (B : Brought) → GivenByTests (usable_row B) (verdict_refusal (verdict_is B))
+refuses : (B : Brought) → GivenByTests (usable_row B) (answer_refusal (verdict_is B))
 unfolding usable_row
 refuses B = given-as (usable_row B) _ refl (number-said B)
 
@@ -92,19 +82,21 @@ usable-first B =
 -- ---- the verdict
 
 module _ (B : Brought) (z : number_of (usable_row B) ≡ 0) where
-  verdict-means : Means B (verdict_is B)
-  verdict-means = subst (Means B) (sym (judged-when B z)) (judged-means B z)
+  answered : verdict_is B ≡ Ok (judged B)
+  answered = sym (judged-when B _ refl z)
 
-  the_one : TheOne (Means B) (verdict_is B)
-  the_one = record { meets = verdict-means; only = λ v m. means-one B v (verdict_is B) m verdict-means }
+  the_one : (v : Verdict) × (verdict_is B ≡ Ok v) × TheOne (Means B) v
+  the_one =
+      let m = judged-means B z in
+      (judged B, answered, record { meets = m; only = λ v k. means-one B v (judged B) k m })
 
-  all_hold : (verdict_is B ≡ verdict.Usable) ↔ AllHold B
-  all_hold = (λ e. subst (Means B) e verdict-means, λ h. means-one B (verdict_is B) verdict.Usable verdict-means h)
-
-  first-broken : (n k : ℕ) → (verdict_is B ≡ verdict.Broken n k) ↔ FirstBroken B n k
-  first-broken n k = (
-    λ e. subst (Means B) e verdict-means,
-    λ h. means-one B (verdict_is B) (verdict.Broken n k) verdict-means h,
+  means-it : (v : Verdict) → (verdict_is B ≡ Ok v) ↔ Means B v
+  means-it v = (
+    λ e.
+        let q : Ok (judged B) ≡ Ok v = sym answered ∙ e in
+        let r : judged B ≡ v = cc in
+        subst (Means B) r (judged-means B z),
+    λ m. answered ∙ ap Ok (means-one B (judged B) v (judged-means B z) m),
   )
 
 -- ---- shifts
@@ -215,7 +207,7 @@ module _ (B : Brought) (z : number_of (usable_row B) ≡ 0) (k : ℕ) (b : TooCl
 
 -- ---- taken over
 
-module _ (B : Brought) (D : Derived) (z : number_of (usable_row B) ≡ 0) (u : verdict_is B ≡ verdict.Usable)
+module _ (B : Brought) (D : Derived) (z : number_of (usable_row B) ≡ 0) (u : verdict_is B ≡ Ok verdict.Usable)
     (s : 16 * B.plan.people ≤ length D.sets) (m : B.plan.people ≤ length D.minutes)
     (t : 2 ≤ length D.totals) where
   right : Right B
@@ -223,7 +215,10 @@ module _ (B : Brought) (D : Derived) (z : number_of (usable_row B) ≡ 0) (u : v
 
   hold : (all (slots_of B) (allowed_at B.plan.people B.avail B.owners) ≡ true)
       × (all (slots_of B) (uniform_at B.units B.begins B.owners) ≡ true)
-  hold = judged-holds B (sym (judged-when B z) ∙ u)
+  hold =
+      let q : Ok (judged B) ≡ Ok verdict.Usable = sym (answered B z) ∙ u in
+      let r : judged B ≡ verdict.Usable = cc in
+      judged-holds B r
 
   each : (k : ℕ) → k < slots_of B → (known_at B.plan.people B.owners k ≡ true) × (available_at B.avail B.owners k ≡ true)
   unfolding allowed_at
@@ -304,21 +299,21 @@ module _ (B : Brought) (D : Derived) (z : number_of (usable_row B) ≡ 0) (u : v
 abbrev Told : Verdict → Type 0
 Told verdict.Usable = Unit
 Told (verdict.Broken n k) = (0 < n) × (n < 65536)
-Told (verdict.Refused n) = Unit
 
-read_as : (was : ℕ) (v : Verdict) → Told v → read_verdict (verdict_number v) (verdict_slot was v) ≡ v
+read_as : (was : ℕ) (v : Verdict) → Told v → read_verdict (verdict_number (Ok v)) (verdict_slot was (Ok v)) ≡ Ok v
 read_as was verdict.Usable t = refl
 read_as was (verdict.Broken n k) t =
-    ap (λ (b : Bool). cond b verdict.Usable (cond (ltb n 65536) (verdict.Broken n k) (verdict.Refused (n - 65536))))
+    ap (λ (b : Bool). cond b (Ok verdict.Usable) (cond (ltb n 65536) (Ok (verdict.Broken n k)) (Err (n - 65536))))
     (ne_eqb n 0 (λ e. omega (arith, e, t.0)))
-    ∙ ap (λ (b : Bool). cond b (verdict.Broken n k) (verdict.Refused (n - 65536))) (lt-ltb n 65536 t.1)
-read_as was (verdict.Refused n) t =
+    ∙ ap (λ (b : Bool). cond b (Ok (verdict.Broken n k)) (Err (n - 65536))) (lt-ltb n 65536 t.1)
+
+refused_as : (was n : ℕ) → read_verdict (65536 + n) was ≡ Err n
+refused_as was n =
     let e : 65536 + n - 65536 ≡ n = omega arith in
-    ap (λ (b : Bool). cond b verdict.Usable (cond (ltb (65536 + n) 65536) (verdict.Broken (65536 + n) was) (verdict.Refused (65536 + n -
-    65536)))) (ne_eqb (65536 + n) 0 (λ e. omega (arith, e)))
-    ∙ ap (λ (b : Bool). cond b (verdict.Broken (65536 + n) was) (verdict.Refused (65536 + n - 65536))) (le-ltb (65536 + n) 65536 (omega
-    arith))
-    ∙ ap verdict.Refused e
+    ap (λ (b : Bool). cond b (Ok verdict.Usable) (cond (ltb (65536 + n) 65536) (Ok (verdict.Broken (65536 + n) was)) (Err (65536 + n - 65536))))
+    (ne_eqb (65536 + n) 0 (λ e. omega (arith, e)))
+    ∙ ap (λ (b : Bool). cond b (Ok (verdict.Broken (65536 + n) was)) (Err (65536 + n - 65536))) (le-ltb (65536 + n) 65536 (omega arith))
+    ∙ ap Err e
 
 told-or : (slots n : ℕ) (p : ℕ → Bool) (v : Verdict) → 0 < n → n < 65536 → Told v → Told (or_broken slots n p v)
 unfolding or_broken
@@ -330,23 +325,25 @@ told-judged B =
     told-or _ 1 _ _ (omega arith) (omega arith) (told-or _ 2 _ _ (omega arith) (omega arith) (told-or _ 3 _ _ (omega arith) (omega arith)
     (told-or _ 4 _ _ (omega arith) (omega arith) (told-or _ 5 _ verdict.Usable (omega arith) (omega arith) tt))))
 
-told : (B : Brought) → Told (verdict_is B)
-unfolding verdict_is unless
-told B = by_cond (eqb (number_of (usable_row B)) 0) (judged B) (verdict.Refused (number_of (usable_row B))) Told (λ e. told-judged B) (λ
-    e. tt)
+reads-as : (B : Brought) (was : ℕ) → read_verdict (verdict_number (verdict_is B)) (verdict_slot was (verdict_is B)) ≡ verdict_is B
+unfolding verdict_is answer_as unless
+reads-as B was =
+    by_cond (eqb (number_of (usable_row B)) 0) (Ok (judged B)) (Err (number_of (usable_row B)))
+    (λ (r : Result Verdict ℕ). read_verdict (verdict_number r) (verdict_slot was r) ≡ r)
+    (λ e. read_as was (judged B) (told-judged B)) (λ e. refused_as was (number_of (usable_row B)))
 
 -- ---- all of it
 
-both-pass : verdict_is (both_hers 120 1) ≡ verdict.Usable
-unfolding verdict_is usable_row unless number_of figures_ok people_ok slot_count_ok slot_room_ok slots_ok all slot_ok_at slot_ok prev_end units_ok
-    start_ok
+both-pass : verdict_is (both_hers 120 1) ≡ Ok verdict.Usable
+unfolding verdict_is usable_row answer_as unless number_of figures_ok people_ok slot_count_ok slot_room_ok slots_ok all slot_ok_at slot_ok prev_end
+    units_ok start_ok
     judged or_broken allowed_at known_at available_at known_by available_for available slot bit_of published_at unfrozen uniform_at unit_of opens_at
     closes_at held capped_at rested_at first_fail next_with last_below up down
 both-pass = refl
 
-both_long : verdict_is (both_hers 119 1) ≡ verdict.Broken 4 0
-unfolding verdict_is usable_row unless number_of figures_ok people_ok slot_count_ok slot_room_ok slots_ok all slot_ok_at slot_ok prev_end units_ok
-    start_ok
+both_long : verdict_is (both_hers 119 1) ≡ Ok (verdict.Broken 4 0)
+unfolding verdict_is usable_row answer_as unless number_of figures_ok people_ok slot_count_ok slot_room_ok slots_ok all slot_ok_at slot_ok prev_end
+    units_ok start_ok
     judged or_broken allowed_at known_at available_at known_by available_for available slot bit_of published_at unfrozen uniform_at unit_of opens_at
     closes_at held capped_at rested_at first_fail next_with last_below up down
 both_long = refl
@@ -358,13 +355,13 @@ usable-by-rule = record {
   by-table = λ B. by_first (usable_table B) (usable_row B) _ refl refl (refuses B) (usable-first B);
   figures = figures-say;
   judged = the_one;
-  usable = all_hold;
-  broken = first-broken;
+  usable = λ B z. means-it B z verdict.Usable;
+  broken = λ B z n k. means-it B z (verdict.Broken n k);
   shift = λ B w a b. (shift_is B w a b, is-shift B w a b);
   in_shift = in_one;
   neighbours = next-close;
   taken-over = taken-over;
-  reads = λ B was. read_as was (verdict_is B) (told B);
+  reads = reads-as;
   passes = both-pass;
   too_long = both_long;
 }

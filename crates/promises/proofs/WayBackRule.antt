@@ -1,4 +1,5 @@
 -- way_back by its rule: the laws of wayback, carried to calls of play. Assumes nothing.
+use Rattle.std.specs.Prelude.{Result, Ok, Err}
 use mathlib.Core.Path.{◌≡◌, refl, sym, ap, ap₂, subst, ◌∙◌}
 use mathlib.Core.Bool.{Bool, true, cond}
 use mathlib.Core.List.{List, [], ◌∷◌}
@@ -175,7 +176,7 @@ module _ (c : Call) (q : Asked) where
             ∙ ap (λ (l : List ℕ). get_or (onto l x) i 0) k
             ∙ onto-in (replicate n 0) x i (omega (arith, length-replicate {A = ℕ} n 0)) ∙ get_or-replicate n i 0 0 h
 
-  leads : (n : ℕ) → (way_for c q).answer ≡ way.Draws n → Leads built c q n
+  leads : (n : ℕ) → (way_for c q).answer ≡ Ok (way.Draws n) → Leads built c q n
   leads n e =
       let r = found-says c.plan c.avail c.units c.begins c.frozen a o c.derived q.draws q.firsts q.seconds
       n e in
@@ -195,7 +196,7 @@ module _ (c : Call) (q : Asked) where
         derived = λ x h. derived-there z none y n L x h;
       }
 
-  blocks : (u : ℕ) → (way_for c q).answer ≡ way.NoWay u → Blocks built c q u
+  blocks : (u : ℕ) → (way_for c q).answer ≡ Ok (way.NoWay u) → Blocks built c q u
   unfolding way_of
   blocks u e =
       let r = blocked-says c.plan c.avail c.units c.begins c.frozen a o c.derived q.draws q.firsts q.seconds u e in
@@ -240,13 +241,13 @@ module _ (c : Call) (q : Asked) where
             ap {B = List ℕ × List ℕ × List ℕ} (λ (y : Outcome). (y.draws, y.firsts, y.seconds)) is;
       }
 
-  found-answer : number_of (way_tests c q) ≡ 0 → ((u : ℕ) → InWay B a o u → ⊥) → (way_for c q).answer ≡ way.Draws (length (back B a o))
+  found-answer : number_of (way_tests c q) ≡ 0 → ((u : ℕ) → InWay B a o u → ⊥) → (way_for c q).answer ≡ Ok (way.Draws (length (back B a o)))
   unfolding draws_written way_of
   found-answer z none =
       ap (λ (y : Outcome). y.answer) (is_found c.plan c.avail c.units c.begins c.frozen a o c.derived q.draws
       q.firsts q.seconds z (first-none B a o none))
 
-  refused-answer : (number_of (way_tests c q) ≡ 0 → ⊥) → (way_for c q).answer ≡ way.Refused (refusal_of (way_tests c q))
+  refused-answer : (number_of (way_tests c q) ≡ 0 → ⊥) → (way_for c q).answer ≡ Err (refusal_of (way_tests c q))
   unfolding way_of
   refused-answer n =
       ap (λ (y : Outcome). y.answer) (is-refused c.plan c.avail c.units c.begins c.frozen a o c.derived q.draws
@@ -294,20 +295,21 @@ module _ (c : Call) (q : Asked) where
       (units-back true room c.plan c.avail c.units c.begins o c.derived))
 
   -- a refusal's number is neither of the others
-  refused-reads : (f : Refusal) → ReadsBack f → (f.number ≡ 0 → ⊥) → (told : ℕ) → read_way (refusal_number f) told ≡ way.Refused f
+  refused-reads : (f : Refusal) → ReadsBack f → (f.number ≡ 0 → ⊥) → (told : ℕ) → read_way (refusal_number f) told ≡ Err f
   refused-reads f e n told =
       let v = refusal_number f in
       let m : v % 256 ≡ f.number = ap (λ (g : Refusal). g.number) e in
       let not-draws = ne_eqb v 0 (λ k. n (sym m ∙ ap (λ (j : ℕ). j % 256) k)) in
       let not-unit = ne_eqb v 65536 (λ k. n (sym m ∙ ap (λ (j : ℕ). j % 256) k)) in
-      ap₂ {C = Way} (λ (x y : Bool). cond x (way.Draws told) (cond y (way.NoWay told) (way.Refused (read_refusal v)))) not-draws not-unit
-      ∙ ap {B = Way} (λ (g : Refusal). way.Refused g) e
+      ap₂ {C = Result Way Refusal} (λ (x y : Bool). cond x (Ok (way.Draws told)) (cond y (Ok (way.NoWay told)) (Err (read_refusal v))))
+      not-draws not-unit
+      ∙ ap {B = Result Way Refusal} (λ (g : Refusal). Err g) e
 
   reads : (was : ℕ) → read_way (way_number (way_for c q).answer) (way_told was (way_for c q).answer) ≡ (way_for c q).answer
   unfolding way_of draws_written
   reads was =
       let P = c.plan in
-      let Read : Way → Type 0 = λ w. read_way (way_number w) (way_told was w) ≡ w in
+      let Read : Result Way Refusal → Type 0 = λ w. read_way (way_number w) (way_told was w) ≡ w in
       by-test (eqb (number_of (way_tests c q)) 0) _
       (λ t.
       let z = eqb-true _ _ t in
@@ -326,7 +328,7 @@ module _ (c : Call) (q : Asked) where
 
 -- two units, owners 0 and 1, remembered 1 and 1
 example : way_for no_draw record { remembered = 1 ∷ 1 ∷ []; draws = replicate 2 9; firsts = replicate 2 9; seconds = replicate 2 9 }
-    ≡ record { answer = way.Draws 1; draws = 0 ∷ 9 ∷ []; firsts = 0 ∷ 9 ∷ []; seconds = 1 ∷ 9 ∷ [] }
+    ≡ record { answer = Ok (way.Draws 1); draws = 0 ∷ 9 ∷ []; firsts = 0 ∷ 9 ∷ []; seconds = 1 ∷ 9 ∷ [] }
 unfolding way_back_of way_row refusal_of state.recount_row state.lent_row recount_tests remembered_row way_room_ok columns_enough way_of draws_written
     people_ok slot_count_ok slot_room_ok slots_ok slot_ok_at slot_ok prev_end units_ok start_ok all all_in among count sum onto first_fail known_at
     known_by

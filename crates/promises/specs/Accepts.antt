@@ -2,17 +2,17 @@
 -- from minute 0 to 60, which is a unit; the rota, its plays and its recount on two such slots. run_job has one of its own. Assumes nothing.
 use Rattle.std.specs.Prelude.{◌≡◌, true, List, [], ◌∷◌, ℕ, leb, pos, length, replicate}
 use Rattle.paper.specs.Limits.{number_of}
-use Rattle.slotset.specs.Answers.{length_row, person_row, person_stretch_row, same_sets_row, new_of, put_of, stretch_of, load_of, yes_no_refusal}
-use Rattle.slotset.specs.Answers.{number_refusal}
+use Rattle.slotset.specs.Answers.{length_row, person_row, person_stretch_row, same_sets_row, new_of, put_of, stretch_of, load_of}
+use Rattle.paper.specs.Rows.{answer_refusal}
 use Rattle.runs.specs.Listed.{all_runs_of}
-use Rattle.slots.specs.Lent.{demand_is, slot_minutes_is, minutes_refusal}
+use Rattle.slots.specs.Lent.{demand_is, slot_minutes_is}
 use Rattle.slots.specs.Ranges.{Ranges, ranges}
 use Rattle.slots.specs.Merged.{columns, merged_ranges}
 use Rattle.slots.specs.Atomic.{atomise_of}
 use Rattle.slots.specs.Availability.{availability_row, is_available}
 use Rattle.slots.specs.Freeze.{freeze_of}
 use Rattle.units.specs.declared.Settings.{Settings}
-use Rattle.units.specs.Answers.{unit_count_is, unit_slots_is, unit_of_slot_is, span_refusal}
+use Rattle.units.specs.Answers.{unit_count_is, unit_slots_is, unit_of_slot_is}
 use Rattle.units.specs.Starts.{rotation_starts_is, unit_starts_is}
 use Rattle.units.specs.Days.{covered_days_is, minutes_per_day_is, target_run_is}
 use Rattle.units.specs.Domains.{unit_frozen_is, slot_domain_is, unit_domain_is, unit_domains_row}
@@ -57,30 +57,30 @@ pub record EachAccepts : Type 0 where
   pub row-load : (load_of (words 1) 1 0 1).number ≡ 0
   pub row-stretch : number_of (person_stretch_row (words 1) 1 0 1 0 1) ≡ 0
   pub same-sets : number_of (same_sets_row (words 1) (words 1) 1 1) ≡ 0
-  pub all_runs : number_refusal (all_runs_of (words 1) 1 0 1 room room).answer ≡ 0
+  pub all_runs : answer_refusal (all_runs_of (words 1) 1 0 1 room room).answer ≡ 0
   -- slots
-  pub demand : minutes_refusal (demand_is 1 starts ends) ≡ 0
-  pub slot-minutes : minutes_refusal (slot_minutes_is 1 starts ends 0) ≡ 0
-  pub merged-ranges : number_refusal (merged_ranges 1 range (columns room room room)).answer ≡ 0
+  pub demand : answer_refusal (demand_is 1 starts ends) ≡ 0
+  pub slot-minutes : answer_refusal (slot_minutes_is 1 starts ends 0) ≡ 0
+  pub merged-ranges : answer_refusal (merged_ranges 1 range (columns room room room)).answer ≡ 0
   pub atomise : let B = one_person 1 (0 ∷ []) (120 ∷ []) 1 (60 ∷ []) (180 ∷ []) (replicate 1024 0) (replicate 1024 0) in
-      number_refusal (atomise_of B).answer ≡ 0
+      answer_refusal (atomise_of B).answer ≡ 0
   pub availability : number_of (availability_row 1 1 starts ends range (words 0)) ≡ 0
-  pub freeze-before : (instant : ℕ) → number_refusal (freeze_of 1 starts ends (words 0) instant).answer ≡ 0
-  pub is-available : yes_no_refusal (is_available 1 1 (words 1) 0 0) ≡ 0
+  pub freeze-before : (instant : ℕ) → answer_refusal (freeze_of 1 starts ends (words 0) instant).answer ≡ 0
+  pub is-available : answer_refusal (is_available 1 1 (words 1) 0 0) ≡ 0
   -- units
-  pub unit-count : number_refusal (unit_count_is 1 1 (0 ∷ [])) ≡ 0
-  pub unit-slots : span_refusal (unit_slots_is 1 1 (0 ∷ []) 0) ≡ 0
-  pub unit-of-slot : number_refusal (unit_of_slot_is 1 1 (0 ∷ []) 0) ≡ 0
-  pub rotation-starts : number_refusal (rotation_starts_is settings 1 starts ends room).answer ≡ 0
-  pub unit-starts : number_refusal (unit_starts_is settings 1 starts ends room).answer ≡ 0
-  pub unit-frozen : yes_no_refusal (unit_frozen_is (words 0) 1 1 (0 ∷ []) 0) ≡ 0
-  pub slot-domain : number_refusal (slot_domain_is (words 1) 1 1 0 room).answer ≡ 0
-  pub unit-domain : number_refusal (unit_domain_is (words 1) 1 1 1 (0 ∷ []) 0 room).answer ≡ 0
+  pub unit-count : answer_refusal (unit_count_is 1 1 (0 ∷ [])) ≡ 0
+  pub unit-slots : answer_refusal (unit_slots_is 1 1 (0 ∷ []) 0) ≡ 0
+  pub unit-of-slot : answer_refusal (unit_of_slot_is 1 1 (0 ∷ []) 0) ≡ 0
+  pub rotation-starts : answer_refusal (rotation_starts_is settings 1 starts ends room).answer ≡ 0
+  pub unit-starts : answer_refusal (unit_starts_is settings 1 starts ends room).answer ≡ 0
+  pub unit-frozen : answer_refusal (unit_frozen_is (words 0) 1 1 (0 ∷ []) 0) ≡ 0
+  pub slot-domain : answer_refusal (slot_domain_is (words 1) 1 1 0 room).answer ≡ 0
+  pub unit-domain : answer_refusal (unit_domain_is (words 1) 1 1 1 (0 ∷ []) 0 room).answer ≡ 0
   pub unit-domains : number_of (unit_domains_row (words 1) 1 1 1 (0 ∷ []) room) ≡ 0
-  pub covered-days : number_refusal (covered_days_is 1 starts ends) ≡ 0
-  pub minutes-per-day : minutes_refusal (minutes_per_day_is 1 starts ends) ≡ 0
-  pub target_run : minutes_refusal (target_run_is settings 1 starts ends) ≡ 0
-  pub achievable-run : minutes_refusal (achievable_run_is settings (words 1) 1 0 1 starts ends) ≡ 0
+  pub covered-days : answer_refusal (covered_days_is 1 starts ends) ≡ 0
+  pub minutes-per-day : answer_refusal (minutes_per_day_is 1 starts ends) ≡ 0
+  pub target_run : answer_refusal (target_run_is settings 1 starts ends) ≡ 0
+  pub achievable-run : answer_refusal (achievable_run_is settings (words 1) 1 0 1 starts ends) ≡ 0
   pub achievable-runs : number_of (achievable_runs_row settings (words 1) 1 1 starts ends room) ≡ 0
   -- targets: marked case 9
   pub compute-targets : let g = given 2 1 (0 ∷ []) (100 ∷ []) (replicate 32 0) (one ∷ one ∷ []) (300 ∷ 0 ∷ []) 1 0 in
@@ -94,8 +94,8 @@ pub record EachAccepts : Type 0 where
   pub recount-slots : number_of (state.recount_slots_row no_draw.plan no_draw.avail no_draw.owners no_draw.derived) ≡ 0
   pub play : (play_of no_draw).refusal.number ≡ 0
   pub play-draws : (play_draws_of no_draw []).refusal.number ≡ 0
-  pub owner-of-slot : number_refusal (state.owner_is 1 1 room 0) ≡ 0
-  pub minutes-of : minutes_refusal (state.minutes_is 1 room 0) ≡ 0
+  pub owner-of-slot : answer_refusal (state.owner_is 1 1 room 0) ≡ 0
+  pub minutes-of : answer_refusal (state.minutes_is 1 room 0) ≡ 0
   pub slots-of : (state.slots_of_is 1 1 (words 1) 0).number ≡ 0
-  pub unassigned-count : number_refusal (state.unassigned_is 1 1 room) ≡ 0
-  pub uncovered-minutes : minutes_refusal (state.uncovered_is no_draw.plan no_draw.owners) ≡ 0
+  pub unassigned-count : answer_refusal (state.unassigned_is 1 1 room) ≡ 0
+  pub uncovered-minutes : answer_refusal (state.uncovered_is no_draw.plan no_draw.owners) ≡ 0

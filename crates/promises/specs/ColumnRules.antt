@@ -4,7 +4,7 @@
 use Rattle.std.specs.Prelude.{◌≡◌, true, false, not, List, [], ◌∷◌, ◌++◌, ℕ, ◌-◌, ◌≤◌, ◌<◌, length, take, drop, get_or}
 use Rattle.std.specs.Borrow.{Bor}
 use Rattle.paper.specs.Limits.{number_of}
-use Rattle.slotset.specs.Answers.{yes_no_as, yes_no_refusal}
+use Rattle.paper.specs.Rows.{answer_as, answer_refusal}
 use Rattle.columns.specs.Parts.{columns_row, stretch_row, Part, is_frozen, EndsAt, part_at, stretch_of, column_of, owners_of, IsPart, all_parts}
 use Rattle.columns.specs.Publishing.{owner_read, publish_of, show_row, show_of}
 use Rattle.boltraven_c.specs.Columns.{part_length}
@@ -28,7 +28,7 @@ pub record ColumnsRefuse : Type 0 where
   pub empty : (slots : ℕ) (published draft frozen : List ℕ) (i : ℕ) → (number_of (stretch_row slots published draft frozen i) ≡ 0 → ⊥)
       → owners_of (stretch_of slots published draft frozen i) published draft ≡ []
   pub told : (slots : ℕ) (published draft frozen : List ℕ) (i : ℕ)
-      → let n = number_of (stretch_row slots published draft frozen i) in yes_no_refusal (yes_no_as n (is_frozen frozen i)) ≡ n
+      → let n = number_of (stretch_row slots published draft frozen i) in answer_refusal (answer_as n (is_frozen frozen i)) ≡ n
   -- refused, the published column and the list stay as they were
   pub publish : (slots : ℕ) (published draft frozen : List ℕ)
       → Refuses (columns_table slots published draft frozen []) (number_of (columns_row slots published draft frozen)) published

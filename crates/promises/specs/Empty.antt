@@ -1,16 +1,14 @@
 -- How empty answers are shut out: each way to answer nothing, said of any component. That each breaks a promise is in proofs/Empty.antt.
 -- Assumes nothing.
-use Rattle.std.specs.Prelude.{◌≡◌, List, ℕ, ◌≤◌, ◌<◌, ℤ}
+use Rattle.std.specs.Prelude.{◌≡◌, List, ℕ, ◌≤◌, ◌<◌, ℤ, Ok}
 use Rattle.slotset.specs.declared.SlotSet.{SlotSet}
 use Rattle.slotset.specs.declared.Run.TheVariants.{Span}
 use Rattle.slots.specs.Atomic.{Base}
 use Rattle.units.specs.declared.Settings.{Settings}
 use Rattle.targets.specs.Outcome as targets
 use Rattle.owners.specs.Derived.{Plan}
-use Rattle.slots.specs.Lent.{minutes_refusal}
+use Rattle.paper.specs.Rows.{answer_refusal}
 use Rattle.promises.specs.Entries.{Call, Component, no_of, owners_in, row_of}
-use Rattle.slotset.specs.Answers.{yes_no_refusal, number_refusal}
-use Rattle.promises.specs.SetRefusals.{found_refusal, run_refusal}
 use Rattle.promises.specs.Table.{GivenByTests}
 use Rattle.promises.specs.Rota.{first_call}
 
@@ -20,18 +18,18 @@ RefusesByTable C = (c : Call) → GivenByTests (row_of c) (C.play c).refusal.num
 
 -- one of its entries does
 pub data AlwaysRefuses (C : Component) : Type 0 where
-  refuses-next : ((s : SlotSet) (i : ℕ) → found_refusal (C.next s i) ≡ 0 → ⊥) → AlwaysRefuses C
-  refuses-prev : ((s : SlotSet) (i : ℕ) → found_refusal (C.prev s i) ≡ 0 → ⊥) → AlwaysRefuses C
-  refuses-run : ((s : SlotSet) (i : ℕ) → run_refusal (C.run s i) ≡ 0 → ⊥) → AlwaysRefuses C
-  refuses-size : ((s : SlotSet) → number_refusal (C.size s) ≡ 0 → ⊥) → AlwaysRefuses C
-  refuses-atomise : ((B : Base) → number_refusal (C.atomise B).answer ≡ 0 → ⊥) → AlwaysRefuses C
-  refuses-available : ((p n : ℕ) (ws : List ℕ) (i k : ℕ) → yes_no_refusal (C.available p n ws i k) ≡ 0 → ⊥) → AlwaysRefuses C
+  refuses-next : ((s : SlotSet) (i : ℕ) → answer_refusal (C.next s i) ≡ 0 → ⊥) → AlwaysRefuses C
+  refuses-prev : ((s : SlotSet) (i : ℕ) → answer_refusal (C.prev s i) ≡ 0 → ⊥) → AlwaysRefuses C
+  refuses-run : ((s : SlotSet) (i : ℕ) → answer_refusal (C.run s i) ≡ 0 → ⊥) → AlwaysRefuses C
+  refuses-size : ((s : SlotSet) → answer_refusal (C.size s) ≡ 0 → ⊥) → AlwaysRefuses C
+  refuses-atomise : ((B : Base) → answer_refusal (C.atomise B).answer ≡ 0 → ⊥) → AlwaysRefuses C
+  refuses-available : ((p n : ℕ) (ws : List ℕ) (i k : ℕ) → answer_refusal (C.available p n ws i k) ≡ 0 → ⊥) → AlwaysRefuses C
   refuses-targets : ((g : targets.Given) (out : List ℤ) → (C.targets g out).number ≡ 0 → ⊥) → AlwaysRefuses C
-  refuses-rotations : ((s : Settings) (n : ℕ) (starts ends list : List ℕ) → number_refusal
+  refuses-rotations : ((s : Settings) (n : ℕ) (starts ends list : List ℕ) → answer_refusal
       (C.rotations s n starts ends list).answer ≡ 0 → ⊥)
       → AlwaysRefuses C
   refuses-play : ((c : Call) → (C.play c).refusal.number ≡ 0 → ⊥) → AlwaysRefuses C
-  refuses-uncovered : ((P : Plan) (o : List ℕ) → minutes_refusal (C.uncovered P o) ≡ 0 → ⊥) → AlwaysRefuses C
+  refuses-uncovered : ((P : Plan) (o : List ℕ) → answer_refusal (C.uncovered P o) ≡ 0 → ⊥) → AlwaysRefuses C
 
 -- "One fixed answer breaks it by cases 1 to 12": one of its entries gives it, whatever it is asked
 pub data FixedAnswer (C : Component) : Type 0 where
@@ -47,7 +45,7 @@ pub data FixedAnswer (C : Component) : Type 0 where
 
 -- case 3 alone asks for a run; beside it: a run that is answered holds the slot that was asked for
 abbrev pub RunsHold : Component → Type 0
-RunsHold C = (s : SlotSet) (i first last : ℕ) → C.run s i ≡ Span first last → (first ≤ i) × (i ≤ last)
+RunsHold C = (s : SlotSet) (i first last : ℕ) → C.run s i ≡ Ok (Span first last) → (first ≤ i) × (i ≤ last)
 
 -- "Doing nothing keeps the frozen, availability and total parts of demand 3, so those rest on demand 2's rule for when a draw acts."
 pub record DoesNothing (C : Component) : Type 0 where

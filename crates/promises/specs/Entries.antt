@@ -1,12 +1,9 @@
 -- A component, by what its entries answer: anything of these types may be judged by the promises. The one that is built answers by the
 -- definitions that the contracts cite. Assumes nothing.
-use Rattle.std.specs.Prelude.{Bool, List, ℕ, ℤ}
+use Rattle.std.specs.Prelude.{Bool, List, ℕ, ℤ, Result, Option}
 use Rattle.paper.specs.Count.{onto}
 use Rattle.slotset.specs.declared.SlotSet.{SlotSet}
-use Rattle.slotset.specs.declared.Found.{Found}
 use Rattle.slotset.specs.declared.Run.{Run}
-use Rattle.slotset.specs.declared.YesNo.{YesNo}
-use Rattle.slotset.specs.declared.Number.{Number}
 use Rattle.slotset.specs.declared.NextRun.{NextRun}
 use Rattle.slotset.specs.Answers.{next_set_is, prev_set_is, run_bounds_is, count_is, next_run_is}
 use Rattle.runs.specs.Listed as runs
@@ -18,7 +15,6 @@ use Rattle.units.specs.Answers.{Written}
 use Rattle.units.specs.Starts.{rotation_starts_is, unit_starts_is}
 use Rattle.units.specs.Domains.{slot_domain_is, unit_domain_is, unit_domains_is}
 use Rattle.targets.specs.Outcome as targets
-use Rattle.slots.specs.declared.Minutes.{Minutes}
 use Rattle.rota.specs.Board.{Board}
 use Rattle.rota.specs.Lent.{board_of}
 use Rattle.rota.specs.Moves.{Draw}
@@ -131,17 +127,17 @@ afresh_in c = record {
 
 pub record Component : Type 0 where
   -- of a set: the next and the previous member, the run that holds a slot, the size
-  pub next : SlotSet → ℕ → Found
-  pub prev : SlotSet → ℕ → Found
-  pub run : SlotSet → ℕ → Run
-  pub size : SlotSet → Number
+  pub next : SlotSet → ℕ → Result (Option ℕ) ℕ
+  pub prev : SlotSet → ℕ → Result (Option ℕ) ℕ
+  pub run : SlotSet → ℕ → Result Run ℕ
+  pub size : SlotSet → Result ℕ ℕ
   -- its next run from a place on; all runs of a person, of words, people, person, length and the two columns to write
-  pub next_run : SlotSet → ℕ → NextRun
+  pub next_run : SlotSet → ℕ → Result (Option NextRun) ℕ
   pub all_runs : List ℕ → ℕ → ℕ → ℕ → List ℕ → List ℕ → runs.Outcome
   -- atomic slots; the words of availability at exit, of people, slots, starts, ends, ranges and words; one of its bits
   pub atomise : Base → Atoms
   pub availability : ℕ → ℕ → List ℕ → List ℕ → Ranges → List ℕ → List ℕ
-  pub available : ℕ → ℕ → List ℕ → ℕ → ℕ → YesNo
+  pub available : ℕ → ℕ → List ℕ → ℕ → ℕ → Result Bool ℕ
   -- targets; the starts of rotations, of settings, slots, starts, ends and the list to write
   pub targets : targets.Given → List ℤ → targets.Outcome
   pub rotations : Settings → ℕ → List ℕ → List ℕ → List ℕ → Written
@@ -153,7 +149,7 @@ pub record Component : Type 0 where
   pub unit_domains : List ℕ → ℕ → ℕ → ℕ → List ℕ → List ℕ → List ℕ
   -- a play; the uncovered minutes of owners
   pub play : Call → state.Outcome
-  pub uncovered : Plan → List ℕ → Minutes
+  pub uncovered : Plan → List ℕ → Result ℕ ℕ
 
 abbrev pub built : Component
 built = record {

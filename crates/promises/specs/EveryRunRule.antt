@@ -1,7 +1,6 @@
 -- Everybody's runs in one call: the lists of single people, one behind the other, in three columns. Assumes nothing.
-use Rattle.std.specs.Prelude.{◌≡◌, List, [], ◌++◌, ℕ, ◌+◌, ◌<◌, length, get_or}
+use Rattle.std.specs.Prelude.{◌≡◌, List, [], ◌++◌, ℕ, ◌+◌, ◌<◌, length, get_or, Ok}
 use Rattle.paper.specs.Limits.{number_of}
-use Rattle.slotset.specs.declared.Number.TheVariants as number
 use Rattle.slotset.specs.Runs.{ends_of_runs}
 use Rattle.slotset.specs.Answers.{row_slots}
 use Rattle.slotset.specs.Lists.{every_run_row, every_run, every_run_of}
@@ -18,7 +17,7 @@ pub record EveryRunByRule : Type 0 where
       → number_of (every_run_row ws people len (length counts) (length firsts) (length lasts)) ≡ 0
       → let x = every_run_of ws people len counts firsts lasts in
       let l = every_run ws len people in
-      (x.answer ≡ number.Is (length l))
+      (x.answer ≡ Ok (length l))
       × ((p : ℕ) → p < people → get_or x.counts p 0 ≡ length (ends_of_runs (row_slots ws p) len))
       × FrontOf (λ r. r.first) l firsts x.firsts × FrontOf (λ r. r.last) l lasts x.lasts
   -- the list: nobody has a run, and each person's runs stand behind those of the people before

@@ -1,17 +1,17 @@
 -- A set is its runs and its holes: what asking the lookup gives at the first slot, and then at the slot behind each stretch, is every slot
 -- below the length, once. Assumes nothing.
-use Rattle.std.specs.Prelude.{◌≡◌, List, [], ◌∷◌, ◌++◌, ℕ, zero, suc, ◌+◌, ◌-◌}
+use Rattle.std.specs.Prelude.{◌≡◌, List, [], ◌∷◌, ◌++◌, ℕ, zero, suc, ◌+◌, ◌-◌, Result, Ok, Err}
 use Rattle.slotset.specs.declared.Run.{Run}
 use Rattle.slotset.specs.declared.Run.TheVariants as run
 use Rattle.slotset.specs.Runs.{Ends, ends_of_runs}
 use Rattle.slotset.specs.Answers.{run_as}
 
 -- a stretch, and what follows from the slot behind it
-abbrev pub then_behind : Run → (ℕ → List Run) → List Run
-then_behind (run.Span first last) g = run.Span first last ∷ g (last + 1)
-then_behind (run.Hole first last) g = run.Hole first last ∷ g (last + 1)
-then_behind run.Outside g = []
-then_behind (run.Refused n) g = []
+abbrev pub then_behind : Result Run ℕ → (ℕ → List Run) → List Run
+then_behind (Ok (run.Span first last)) g = run.Span first last ∷ g (last + 1)
+then_behind (Ok (run.Hole first last)) g = run.Hole first last ∷ g (last + 1)
+then_behind (Ok run.Outside) g = []
+then_behind (Err n) g = []
 
 -- at most n stretches, from the one that holds the slot `at` on
 unfoldable pub stretches : ℕ → (ℕ → ℕ) → ℕ → ℕ → List Run
@@ -33,7 +33,6 @@ slots_in [] = []
 slots_in (run.Span first last ∷ l) = slots_from first (last + 1 - first) ++ slots_in l
 slots_in (run.Hole first last ∷ l) = slots_from first (last + 1 - first) ++ slots_in l
 slots_in (run.Outside ∷ l) = slots_in l
-slots_in (run.Refused n ∷ l) = slots_in l
 
 -- the runs among them, and the holes
 abbrev pub runs_in : List Run → List Ends
@@ -41,14 +40,12 @@ runs_in [] = []
 runs_in (run.Span first last ∷ l) = record { first = first; last = last } ∷ runs_in l
 runs_in (run.Hole first last ∷ l) = runs_in l
 runs_in (run.Outside ∷ l) = runs_in l
-runs_in (run.Refused n ∷ l) = runs_in l
 
 abbrev pub holes_in : List Run → List Ends
 holes_in [] = []
 holes_in (run.Span first last ∷ l) = holes_in l
 holes_in (run.Hole first last ∷ l) = record { first = first; last = last } ∷ holes_in l
 holes_in (run.Outside ∷ l) = holes_in l
-holes_in (run.Refused n ∷ l) = holes_in l
 
 -- the set of the slots that are not in it
 abbrev pub unset : (ℕ → ℕ) → ℕ → ℕ

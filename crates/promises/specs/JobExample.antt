@@ -1,8 +1,7 @@
 -- The paper's example of a job, byte by byte, as what `run_job` leaves: so it doesn't always refuse. Assumes nothing.
-use Rattle.std.specs.Prelude.{◌≡◌, List, [], ◌∷◌, ◌++◌, ℕ, ◌≤◌, length, drop}
+use Rattle.std.specs.Prelude.{◌≡◌, List, [], ◌∷◌, ◌++◌, ℕ, ◌≤◌, length, drop, Ok}
 use Rattle.records.specs.Records.{Rec, file_of}
-use Rattle.job.specs.declared.JobAnswer.TheVariants as answer
-use Rattle.job.specs.Outcome.{Result, job_result}
+use Rattle.job.specs.Outcome.{Outcome, job_result}
 
 abbrev pub rec : ℕ → List ℕ → Rec
 rec kind body = record { kind = kind; body = body }
@@ -34,4 +33,4 @@ example_text =
 -- whatever buffer is lent that has room: the listing at its front, its length, and past it the buffer as it was
 abbrev pub JobExample : Type 0
 JobExample = (x : List ℕ) → 65536 ≤ length x
-    → ◌≡◌ {A = Result} (job_result (file_of example) x) (record { answer = answer.Length 54; out = example_text ++ drop 54 x })
+    → ◌≡◌ {A = Outcome} (job_result (file_of example) x) (record { answer = Ok 54; out = example_text ++ drop 54 x })

@@ -1,12 +1,11 @@
 -- The job: demand 1 of run_job, whose number 13 comes before all, and what its file and its listing mean. Assumes nothing.
-use Rattle.std.specs.Prelude.{◌≡◌, true, List, [], ◌↔◌, ◌≢◌, ℕ, suc, ◌+◌, ◌-◌, ◌^◌, ◌≤◌, ◌<◌, ℤ, pos, nat_abs, length, get_or, take, drop}
+use Rattle.std.specs.Prelude.{◌≡◌, true, List, [], ◌↔◌, ◌≢◌, ℕ, suc, ◌+◌, ◌-◌, ◌^◌, ◌≤◌, ◌<◌, ℤ, pos, nat_abs, length, get_or, take, drop, Ok, Err}
 use Rattle.paper.specs.declared.Refusal.{Refusal}
 use Rattle.paper.specs.Limits.{nobody}
 use Rattle.paper.specs.Count.{sum}
 use Rattle.targets.specs.Remainder.{sumℤ}
 use Rattle.owners.specs.Derived.{known_by}
 use Rattle.owners.specs.Recount.{available_for}
-use Rattle.job.specs.declared.JobAnswer.TheVariants as answer
 use Rattle.records.specs.Fields.{le, Bytes}
 use Rattle.records.specs.Records.{bodies}
 use Rattle.job.specs.File.{job_sizes, owner_slot, file_ok, JobFile}
@@ -38,12 +37,12 @@ pub record JobByRule : Type 0 where
   -- "The lowest number wins, but 13 comes before all": a refusal is given exactly where its number is the lowest of those that apply; 10 is
   -- of the lowest unit with two owners, which is part 3, and no other number names a part
   pub given : (s x : List ℕ) (f : Refusal)
-      → ((job_result s x).answer ≡ answer.Refused f) ↔ (Lowest (job_tests s (length x)) f.number × (f ≡ refusal_at f.number (uneven_of s)))
+      → ((job_result s x).answer ≡ Err f) ↔ (Lowest (job_tests s (length x)) f.number × (f ≡ refusal_at f.number (uneven_of s)))
   -- a listing is given exactly where no number applies
   pub answered : (s x : List ℕ) (n : ℕ)
-      → ((job_result s x).answer ≡ answer.Length n) ↔ (AllPass (job_tests s (length x)) × (n ≡ length (listing_of (listed_of s))))
+      → ((job_result s x).answer ≡ Ok n) ↔ (AllPass (job_tests s (length x)) × (n ≡ length (listing_of (listed_of s))))
   -- "A refusal returns its number alone and changes nothing lent."
-  pub kept : (s x : List ℕ) (f : Refusal) → (job_result s x).answer ≡ answer.Refused f → (job_result s x).out ≡ x
+  pub kept : (s x : List ℕ) (f : Refusal) → (job_result s x).answer ≡ Err f → (job_result s x).out ≡ x
   -- 13, both ways: the file is a right sequence of records, and not too long
   pub file : (s : List ℕ) → Bytes s → (file_ok s ≡ true) ↔ JobFile s
   -- what a job works with stands in that sequence: as many records of each kind, each field in the body of its record, the settings
@@ -61,7 +60,7 @@ pub record JobByRule : Type 0 where
   pub owners : (s : List ℕ) (at slots n : ℕ) → slots ≤ 1024 → ((k : ℕ) → suc k < n → owner_slot s at k < owner_slot s at (suc k))
       → ((k : ℕ) → k < n → owner_slot s at k < slots → get_or (placed s at slots n) (owner_slot s at k) 0 ≡ owner_value s at k)
       × ((j : ℕ) → j < slots → ((k : ℕ) → k < n → owner_slot s at k ≢ j) → get_or (placed s at slots n) j 0 ≡ nobody)
-  pub accepted : (s x : List ℕ) (n : ℕ) → (job_result s x).answer ≡ answer.Length n → Accepted s x n
+  pub accepted : (s x : List ℕ) (n : ℕ) → (job_result s x).answer ≡ Ok n → Accepted s x n
   -- the digits of a number have that number as their value, with a minus sign for one below 0
   pub digits : (n : ℕ) → n < 10 ^ 20 → read_digits (digits n) ≡ n
   pub signed : (z : ℤ) → nat_abs z < 10 ^ 20 → read_signed (signed z) ≡ z

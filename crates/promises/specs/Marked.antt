@@ -1,13 +1,10 @@
 -- The twelve marked cases of the paper, as one table under one statement, each in the paper's words above its line. Where an entry is lent
 -- room, the line is for every buffer that has it: what lies past the answer stays. Assumes nothing.
-use Rattle.std.specs.Prelude.{◌≡◌, false, List, [], ◌∷◌, ◌++◌, ℕ, ◌-◌, ◌*◌, ◌^◌, ◌≤◌, ℤ, pos, negsuc, Float, length, drop, replicate}
+use Rattle.std.specs.Prelude.{◌≡◌, false, List, [], ◌∷◌, ◌++◌, ℕ, ◌-◌, ◌*◌, ◌^◌, ◌≤◌, ℤ, pos, negsuc, Float, length, drop, replicate, Ok, true, Some, None}
 use Rattle.std.specs.Float.{fin}
 use Rattle.paper.specs.Rows.{accepted}
 use Rattle.slotset.specs.declared.SlotSet.{SlotSet}
-use Rattle.slotset.specs.declared.Found.TheVariants.{At, Nothing}
 use Rattle.slotset.specs.declared.Run.TheVariants as run
-use Rattle.slotset.specs.declared.YesNo.TheVariants.{Yes, No}
-use Rattle.slotset.specs.declared.Number.TheVariants as number
 use Rattle.slots.specs.Ranges.{ranges}
 use Rattle.slots.specs.Atomic.{Base, base, Atoms}
 use Rattle.units.specs.declared.Settings.{Settings}
@@ -27,7 +24,7 @@ one_person slots starts ends count opens shuts a b = base slots starts ends 1 (r
 
 -- that many atomic slots, from starts to ends, at the front of two columns
 abbrev pub atoms : ℕ → List ℕ → List ℕ → List ℕ → List ℕ → Atoms
-atoms n starts ends a b = record { answer = number.Is n; starts = starts ++ drop n a; ends = ends ++ drop n b }
+atoms n starts ends a b = record { answer = Ok n; starts = starts ++ drop n a; ends = ends ++ drop n b }
 
 -- capacity 1, capacity 0
 abbrev pub one : Float
@@ -97,12 +94,12 @@ two_units r frozen count draws firsts seconds more = record {
 pub record MarkedCases (C : Component) : Type 0 where
   -- 1. Length 64, {63}: next from 0 is 63, from 64 nothing
   pub case-1 : (rest : List ℕ)
-      → (C.next (in_words 64 (2 ^ 63 ∷ rest)) 0 ≡ At 63) × (C.next (in_words 64 (2 ^ 63 ∷ rest)) 64 ≡ Nothing)
+      → (C.next (in_words 64 (2 ^ 63 ∷ rest)) 0 ≡ Ok (Some 63)) × (C.next (in_words 64 (2 ^ 63 ∷ rest)) 64 ≡ Ok None)
   -- 2. Length 65, {0, 64}: prev from 1000 is 64, from 63 is 0
   pub case-2 : (rest : List ℕ)
-      → (C.prev (in_words 65 (1 ∷ 1 ∷ rest)) 1000 ≡ At 64) × (C.prev (in_words 65 (1 ∷ 1 ∷ rest)) 63 ≡ At 0)
+      → (C.prev (in_words 65 (1 ∷ 1 ∷ rest)) 1000 ≡ Ok (Some 64)) × (C.prev (in_words 65 (1 ∷ 1 ∷ rest)) 63 ≡ Ok (Some 0))
   -- 3. Length 70, 60 to 69 set: run at 64 is 60 to 69
-  pub case-3 : (rest : List ℕ) → C.run (in_words 70 ((2 ^ 64 - 2 ^ 60) ∷ (2 ^ 6 - 1) ∷ rest)) 64 ≡ run.Span 60 69
+  pub case-3 : (rest : List ℕ) → C.run (in_words 70 ((2 ^ 64 - 2 ^ 60) ∷ (2 ^ 6 - 1) ∷ rest)) 64 ≡ Ok (run.Span 60 69)
   -- 4. Base 0-120, range 60-180: 0-60, 60-120
   pub case-4 : (a b : List ℕ) → 1024 ≤ length a → 1024 ≤ length b
       → C.atomise (one_person 1 (0 ∷ []) (120 ∷ []) 1 (60 ∷ []) (180 ∷ []) a b) ≡ atoms 2 (0 ∷ 60 ∷ []) (60 ∷ 120 ∷ []) a b
@@ -115,7 +112,7 @@ pub record MarkedCases (C : Component) : Type 0 where
       ≡ atoms 4 (0 ∷ 30 ∷ 60 ∷ 90 ∷ []) (30 ∷ 60 ∷ 90 ∷ 120 ∷ []) a b
   pub case-6-available : (ws : List ℕ) → 16 ≤ length ws
       → let at = C.availability 1 4 (0 ∷ 30 ∷ 60 ∷ 90 ∷ []) (30 ∷ 60 ∷ 90 ∷ 120 ∷ []) (ranges 1 (0 ∷ []) (30 ∷ []) (90 ∷ [])) ws in
-      (C.available 1 4 at 0 0 ≡ No) × (C.available 1 4 at 0 1 ≡ Yes) × (C.available 1 4 at 0 2 ≡ Yes) × (C.available 1 4 at 0 3 ≡ No)
+      (C.available 1 4 at 0 0 ≡ (Ok false)) × (C.available 1 4 at 0 1 ≡ (Ok true)) × (C.available 1 4 at 0 2 ≡ (Ok true)) × (C.available 1 4 at 0 3 ≡ (Ok false))
   -- 7. Fairness 1, demand 100, three equal: 33, 33, 34
   pub case-7 : Shared C 100 (one ∷ one ∷ one ∷ []) (0 ∷ 0 ∷ 0 ∷ []) (pos 33 ∷ pos 33 ∷ pos 34 ∷ [])
   -- 8. Demand 2, four equal: 1, 1, 1, -1
@@ -127,7 +124,7 @@ pub record MarkedCases (C : Component) : Type 0 where
   -- 11. Slots from 4320, 5040, 5760, 6480, 720 long, Monday: starts 0, 2
   pub case-11 : (fairness lock edition days : ℕ) (list : List ℕ) → fairness ≤ 1 → lock ≤ 1 → edition ≤ 1 → days ≤ 366 → 4 ≤ length list
       → C.rotations (mondays fairness lock edition days) 4 (4320 ∷ 5040 ∷ 5760 ∷ 6480 ∷ []) (5040 ∷ 5760 ∷ 6480 ∷ 7200 ∷ []) list
-      ≡ record { answer = number.Is 2; buffer = 0 ∷ 2 ∷ drop 2 list }
+      ≡ record { answer = Ok 2; buffer = 0 ∷ 2 ∷ drop 2 list }
   -- 12. Two units, owners 0 and 1, unit 1 frozen: (35, 0, 1) answers 1
   pub case-12 : (more : Spare) → 1 ≤ length more.answers
       → let c = two_units apart 2 1 (35 ∷ []) (0 ∷ []) (1 ∷ []) more in

@@ -1,9 +1,8 @@
 -- A damaged rota mended: what is refused, what comes out, what the list tells, and that no more than needed is changed. The steps stand in
 -- `mend/specs/Mended`, what a list tells in `mend/specs/Repairs`. Assumes nothing.
-use Rattle.std.specs.Prelude.{◌≡◌, List, [], ◌∷◌, ℕ, ◌*◌, ◌^◌, ◌≤◌, ◌<◌, leb, length, get_or, replicate}
+use Rattle.std.specs.Prelude.{◌≡◌, List, [], ◌∷◌, ℕ, ◌*◌, ◌^◌, ◌≤◌, ◌<◌, leb, length, get_or, replicate, Ok, Err}
 use Rattle.paper.specs.Limits.{nobody, Test, number_of}
 use Rattle.paper.specs.Count.{onto}
-use Rattle.slotset.specs.declared.Number.TheVariants as number
 use Rattle.owners.specs.Derived.{Plan, plan, derived}
 use Rattle.owners.specs.Entries.{recount_row}
 use Rattle.mend.specs.Mended.{Keeps}
@@ -72,13 +71,13 @@ pub record MendByRule : Type 0 where
   -- what is lent is refused by the table, in the words of the paper, and then nothing is changed, the list too
   pub by-table : (d : Damaged) → GivenBy (mend_table d) (number_of (lent_tests d))
   pub refused : (d : Damaged) → (number_of (lent_tests d) ≡ 0 → ⊥)
-      → mend_of d ≡ record { answer = number.Refused (number_of (lent_tests d)); rota = d.found; list = d.list }
+      → mend_of d ≡ record { answer = Err (number_of (lent_tests d)); rota = d.found; list = d.list }
   -- else 2 exactly where the list has no room for the repairs that come out, and again nothing is changed
   pub short-list : (d : Damaged) → number_of (lent_tests d) ≡ 0 → length d.list < 5 * length (due_of d d.found)
-      → mend_of d ≡ record { answer = number.Refused 2; rota = d.found; list = d.list }
+      → mend_of d ≡ record { answer = Err 2; rota = d.found; list = d.list }
   pub mends : (d : Damaged) → number_of (lent_tests d) ≡ 0 → 5 * length (due_of d d.found) ≤ length d.list
       → mend_of d ≡ record {
-        answer = number.Is (length (due_of d d.found));
+        answer = Ok (length (due_of d d.found));
         rota = mended_of d d.found;
         list = onto (numbers (due_of d d.found)) d.list;
       }
@@ -113,9 +112,9 @@ pub record MendByRule : Type 0 where
       → (get_or (mended_of d d.found).owners k 0 ≡ get_or d.found.owners k 0 → ⊥) → get_or (mended_of d d.found).owners k 0 ≡ nobody
   -- it is not empty: six repairs, and with room for one number less 2
   pub example : mend_of (seven_found 30) ≡ record {
-    answer = number.Is 6;
+    answer = Ok 6;
     rota = rota (255 ∷ 255 ∷ []) (derived (words 0) (0 ∷ []) (120 ∷ 2 ∷ []));
     list = 0 ∷ 0 ∷ 7 ∷ 255 ∷ 1 ∷ 0 ∷ 1 ∷ 0 ∷ 255 ∷ 0 ∷ 1 ∷ 0 ∷ 3 ∷ 0 ∷ 0 ∷ 2 ∷ 0 ∷ 120 ∷ 0 ∷ 0 ∷ 3 ∷ 0 ∷ 0 ∷ 120 ∷ 0 ∷ 3 ∷ 1 ∷ 0 ∷ 2 ∷
         0 ∷ [];
   }
-  pub one-short : mend_of (seven_found 29) ≡ record { answer = number.Refused 2; rota = (seven_found 29).found; list = replicate 29 9 }
+  pub one-short : mend_of (seven_found 29) ≡ record { answer = Err 2; rota = (seven_found 29).found; list = replicate 29 9 }

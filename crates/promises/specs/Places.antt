@@ -1,5 +1,5 @@
 -- Where the recount failed, as the paper says it: the part, and the lowest place at fault in it; no part before it has a fault. Assumes nothing.
-use Rattle.std.specs.Prelude.{◌≡◌, Bool, true, List, [], ◌∷◌, ◌++◌, ◌⊎◌, ◌↔◌, ◌≢◌, ℕ, ◌<◌, get_or}
+use Rattle.std.specs.Prelude.{◌≡◌, Bool, true, List, [], ◌∷◌, ◌++◌, ◌⊎◌, ◌↔◌, ◌≢◌, ℕ, ◌<◌, get_or, Err}
 use Rattle.paper.specs.Limits.{nobody, test, number_of}
 use Rattle.paper.specs.declared.Refusal.{Refusal}
 use Rattle.paper.specs.Rows.{refusal_of}
@@ -10,7 +10,6 @@ use Rattle.owners.specs.Recount.{recount_tests}
 use Rattle.owners.specs.Entries.{placeless, lent_row, recount_row, recount_slots_row}
 use Rattle.rota.specs.Entries.{assigned}
 use Rattle.rota.specs.declared.draws.Draw.{Draw}
-use Rattle.job.specs.declared.JobAnswer.TheVariants as answer
 use Rattle.job.specs.File.{JobFile}
 use Rattle.job.specs.Outcome.{job_result}
 use Rattle.promises.specs.Entries.{Call, play_of, play_draws_of}
@@ -101,6 +100,6 @@ pub record PlacesByRule : Type 0 where
   pub play-draws : (c : Call) (ds : List Draw) → (play_draws_of c ds).refusal.number ≡ 10
       → FailsAt c.plan c.avail c.units c.begins c.owners c.derived (play_draws_of c ds).refusal
   -- "in a job only 10.3 comes": its unit is the lowest to which the records give two owners
-  pub job : (s x : List ℕ) (J : JobFile s) (f : Refusal) → (job_result s x).answer ≡ answer.Refused f → f.number ≡ 10
+  pub job : (s x : List ℕ) (J : JobFile s) (f : Refusal) → (job_result s x).answer ≡ Err f → f.number ≡ 10
       → let R = ready_from (given_by J.records) in (f ≡ fault 3 f.place 0) × LowestFault R.units (UnitEven J.records R) f.place
-  pub job-none : (s x : List ℕ) (f : Refusal) → (job_result s x).answer ≡ answer.Refused f → f.number ≢ 10 → f ≡ placeless f.number
+  pub job-none : (s x : List ℕ) (f : Refusal) → (job_result s x).answer ≡ Err f → f.number ≢ 10 → f ≡ placeless f.number

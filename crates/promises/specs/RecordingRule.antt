@@ -1,5 +1,5 @@
 -- A recording's replay, from the bytes of its file to the text: what is written, of the file alone, and by which rule. Assumes nothing.
-use Rattle.std.specs.Prelude.{◌≡◌, List, [], map, ◌↔◌, ℕ, ◌<◌, get_or, take, drop}
+use Rattle.std.specs.Prelude.{◌≡◌, List, [], map, ◌↔◌, ℕ, ◌<◌, get_or, take, drop, Result, Ok}
 use Rattle.paper.specs.Limits.{number_of}
 use Rattle.paper.specs.Rows.{refusal_of}
 use Rattle.records.specs.Fields.{Bytes}
@@ -32,14 +32,14 @@ pub record RecordingsByRule (text : List ℕ → List ℕ) : Type 0 where
       → (y ≡ text s) ↔ Shows (ready_of (job_in s)) (owners_of (job_in s)) 0 [] (blocks_in s) y
 
 -- what is read, by the records that stand in the bytes: each answer of a reader exactly where its records stand
-pub record RecordsRead (read : List ℕ → ℕ → BlockRead) (end : List ℕ → ℕ) : Type 0 where
+pub record RecordsRead (read : List ℕ → ℕ → Result BlockRead ℕ) (end : List ℕ → ℕ) : Type 0 where
   -- a closed block, the end, or the first faulty record by its number: 13 before 1 in one record
-  pub block : (t : List ℕ) (blocks : ℕ) → Bytes t → (r : BlockRead) → ReadOf t blocks r ↔ (r ≡ read t blocks)
+  pub block : (t : List ℕ) (blocks : ℕ) → Bytes t → (r : Result BlockRead ℕ) → ReadOf t blocks r ↔ (r ≡ read t blocks)
   -- whole records of other kinds, then a head of kind 8 or 9; else all bytes
   pub job : (s : List ℕ) → Bytes s → (e : ℕ) → JobEnds s e ↔ (e ≡ end s)
   -- a reader that answers with a block leaves its draws and answers in the columns
   pub columns : (t : List ℕ) (blocks n next : ℕ) (B : BlockFirst t blocks n next) (ks fs ss rs ks' fs' ss' rs' : List ℕ)
-      → ReadsAs t blocks ks fs ss rs (answer.Block n next) ks' fs' ss' rs' → Holds B.draws ks' fs' ss' rs'
+      → ReadsAs t blocks ks fs ss rs (Ok (answer.Block n next)) ks' fs' ss' rs' → Holds B.draws ks' fs' ss' rs'
   -- and these are what is played, and what its answers are compared with
   pub draws : (t : List ℕ) (blocks n next : ℕ) (B : BlockFirst t blocks n next) → draws_in t n ≡ map (λ (d : Recorded). d.draw) B.draws
   pub answers : (t : List ℕ) (blocks n next : ℕ) (B : BlockFirst t blocks n next) (k : ℕ) → k < n

@@ -1,12 +1,12 @@
 -- A replay of recorded blocks: what one block comes to, both ways; and over blocks of any number, each on what the one before it left,
 -- demand 3 sentence by sentence, of all draws so far as one list of any length. Assumes nothing.
-use Rattle.std.specs.Prelude.{◌≡◌, true, List, [], ◌∷◌, ◌++◌, ◌↔◌, ℕ, suc, ◌+◌, ◌≤◌, ◌<◌, eqb, length, get_or, take}
+use Rattle.std.specs.Prelude.{◌≡◌, true, List, [], ◌∷◌, ◌++◌, ◌↔◌, ℕ, suc, ◌+◌, ◌≤◌, ◌<◌, eqb, length, get_or, take, Result, Ok, Err}
 use Rattle.paper.specs.Limits.{draws_most, nobody, Test, number_of}
+use Rattle.paper.specs.declared.Refusal.{Refusal}
 use Rattle.paper.specs.Rows.{refusal_of}
 use Rattle.paper.specs.Count.{sum}
 use Rattle.slotset.specs.Slots.{slot}
 use Rattle.slots.specs.Lent.{demand_of}
-use Rattle.slots.specs.declared.Minutes.TheVariants as minutes
 use Rattle.units.specs.Units.{unit_of}
 use Rattle.owners.specs.Derived.{Derived, known_by, afresh}
 use Rattle.owners.specs.Recount.{available_for, recounts}
@@ -52,10 +52,10 @@ pub record FirstDiffers (c : Call) (o : List ℕ) (b : Part) (p : ℕ) : Type 0 
   pub here : Agree (board_in c) o (block_draws b) b.answers p → ⊥
 
 -- what is played: all draws of a block that agrees; up to and with the one that differs; of a refused block none
-abbrev pub played_in : Replayed → Part → List Draw
-played_in variant.Agrees b = block_draws b
-played_in (variant.Differs p) b = take (suc p) (block_draws b)
-played_in (variant.Refused f) b = []
+abbrev pub played_in : Result Replayed Refusal → Part → List Draw
+played_in (Ok variant.Agrees) b = block_draws b
+played_in (Ok (variant.Differs p)) b = take (suc p) (block_draws b)
+played_in (Err f) b = []
 
 -- a block that isn't refused leaves the owners that the rules give for these draws, and the rest worked out afresh
 pub record BlockPlayed (R : Replay) (c : Call) (o : List ℕ) (D : Derived) (b : Part) : Type 0 where
@@ -65,23 +65,23 @@ pub record BlockPlayed (R : Replay) (c : Call) (o : List ℕ) (D : Derived) (b :
 pub record BlocksByRule (R : Replay) : Type 0 where
   -- "agrees" exactly when nothing stands against it and every answer is the recorded one
   pub agrees : (c : Call) (o : List ℕ) (D : Derived) (b : Part)
-      → ((R c o D b).answer ≡ variant.Agrees)
+      → ((R c o D b).answer ≡ Ok variant.Agrees)
       ↔ ((number_of (replay_tests c o D b) ≡ 0)
       × ((i : ℕ) → i < b.count → Agree (board_in c) o (block_draws b) b.answers i))
   -- a place exactly when nothing stands against it and that draw is the first that differs
   pub differs : (c : Call) (o : List ℕ) (D : Derived) (b : Part) (p : ℕ)
-      → ((R c o D b).answer ≡ variant.Differs p) ↔ ((number_of (replay_tests c o D b) ≡ 0) × FirstDiffers c o b p)
+      → ((R c o D b).answer ≡ Ok (variant.Differs p)) ↔ ((number_of (replay_tests c o D b) ≡ 0) × FirstDiffers c o b p)
   pub played : (c : Call) (o : List ℕ) (D : Derived) (b : Part) → number_of (replay_tests c o D b) ≡ 0 → BlockPlayed R c o D b
   -- refused by its tests, with part and place, and the rota is as it was lent
   pub refused : (c : Call) (o : List ℕ) (D : Derived) (b : Part) → (number_of (replay_tests c o D b) ≡ 0 → ⊥)
-      → ((R c o D b).answer ≡ variant.Refused (refusal_of (replay_tests c o D b))) × ((R c o D b).owners ≡ o) × ((R c o D b).derived ≡ D)
+      → ((R c o D b).answer ≡ Err (refusal_of (replay_tests c o D b))) × ((R c o D b).owners ≡ o) × ((R c o D b).derived ≡ D)
 
 -- ---- blocks one after another
 
 -- every block agrees, each on what the one before it left; and what the last one leaves
 unfoldable pub AllAgree : Replay → Call → List ℕ → Derived → List Part → Type 0
 AllAgree R c o D [] = Unit
-AllAgree R c o D (b ∷ bs) = let y = R c o D b in (y.answer ≡ variant.Agrees) × AllAgree R c y.owners y.derived bs
+AllAgree R c o D (b ∷ bs) = let y = R c o D b in (y.answer ≡ Ok variant.Agrees) × AllAgree R c y.owners y.derived bs
 
 unfoldable pub owners_left : Replay → Call → List ℕ → Derived → List Part → List ℕ
 owners_left R c o D [] = o
@@ -153,7 +153,7 @@ pub record KeepsDemandThree (C : Component) (R : Replay) (c : Call) (o : List �
   pub recount : recounts c.plan c.avail c.units c.begins (next R c o D bs b).owners (next R c o D bs b).derived ≡ true
   -- "minutes plus uncovered minutes equal the slots' total": the stored uncovered minutes are those answered, and this is their sum
   pub adds-up : let stored = get_or (next R c o D bs b).derived.totals 0 0 in
-      (C.uncovered c.plan (next R c o D bs b).owners ≡ minutes.Is stored)
+      (C.uncovered c.plan (next R c o D bs b).owners ≡ Ok stored)
       × (sum c.plan.people (λ p. get_or (next R c o D bs b).derived.minutes p 0) + stored
       ≡ demand_of c.plan.slots c.plan.starts c.plan.ends)
 
@@ -173,7 +173,7 @@ pub record FirstOfAll (c : Call) (o : List ℕ) (bs : List Part) (b : Part) (p :
 abbrev pub NamesTheFirst : Replay → Type 0
 NamesTheFirst R =
     (c : Call) (o : List ℕ) (D : Derived) (bs : List Part) (b : Part) (p : ℕ) → Words D.sets → AllAgree R c o D bs
-    → (next R c o D bs b).answer ≡ variant.Differs p → FirstOfAll c o bs b p
+    → (next R c o D bs b).answer ≡ Ok (variant.Differs p) → FirstOfAll c o bs b p
 
 -- ---- how the draws are cut into blocks doesn't matter
 

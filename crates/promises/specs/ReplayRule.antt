@@ -1,6 +1,7 @@
 -- The function replay_block, by its rule: when it refuses, what a C caller reads, a night that is worked out, and two wrong replays that
 -- the rule shuts out. Assumes nothing.
-use Rattle.std.specs.Prelude.{◌≡◌, cond, List, [], ◌∷◌, ◌++◌, ◌↔◌, ℕ, ◌<◌, eqb, get_or}
+use Rattle.std.specs.Prelude.{◌≡◌, cond, List, [], ◌∷◌, ◌++◌, ◌↔◌, ℕ, ◌<◌, eqb, get_or, Result, Ok, Err}
+use Rattle.paper.specs.declared.Refusal.{Refusal}
 use Rattle.owners.specs.Derived.{Derived, plan, derived}
 use Rattle.rota.specs.declared.replay.Replayed.{Replayed}
 use Rattle.rota.specs.declared.replay.Replayed.TheVariants as variant
@@ -14,18 +15,18 @@ use Rattle.promises.specs.Table.{rules, Refuses}
 use Rattle.promises.specs.Replay.{Replay, replay_of, block_draws, BlocksByRule}
 
 -- the number of its refusal; 0 where it agrees or differs
-abbrev pub refused_by : Replayed → ℕ
-refused_by variant.Agrees = 0
-refused_by (variant.Differs p) = 0
-refused_by (variant.Refused f) = f.number
+abbrev pub refused_by : Result Replayed Refusal → ℕ
+refused_by (Ok variant.Agrees) = 0
+refused_by (Ok (variant.Differs p)) = 0
+refused_by (Err f) = f.number
 
 -- a recorded answer that is none
 abbrev pub NoAnswer : Part → Type 0
 NoAnswer b = (i : ℕ) × (i < b.count) × (2 < get_or b.answers i 0)
 
 -- the answer that a C caller reads of its number and of the place beside it
-abbrev pub read_replayed : ℕ → ℕ → Replayed
-read_replayed v place = cond (eqb v 0) variant.Agrees (cond (eqb v 65536) (variant.Differs place) (variant.Refused (read_refusal v)))
+abbrev pub read_replayed : ℕ → ℕ → Result Replayed Refusal
+read_replayed v place = cond (eqb v 0) (Ok variant.Agrees) (cond (eqb v 65536) (Ok (variant.Differs place)) (Err (read_refusal v)))
 
 pub record ReplayRefuses : Type 0 where
   -- 13, both ways, whatever else is lent
@@ -76,9 +77,9 @@ second_block = record {
 -- the first agrees and hands unit 1 to person 1; the second differs at place 1, whose draw is played: unit 1 is person 0's again
 pub record NightIs (R : Replay) : Type 0 where
   pub agrees : R night night.owners night.derived first_block
-      ≡ record { answer = variant.Agrees; owners = 0 ∷ 1 ∷ []; derived = derived (words 1 ++ words 2) (60 ∷ 60 ∷ []) (0 ∷ 0 ∷ []) }
+      ≡ record { answer = Ok variant.Agrees; owners = 0 ∷ 1 ∷ []; derived = derived (words 1 ++ words 2) (60 ∷ 60 ∷ []) (0 ∷ 0 ∷ []) }
   pub differs : R night (0 ∷ 1 ∷ []) (derived (words 1 ++ words 2) (60 ∷ 60 ∷ []) (0 ∷ 0 ∷ [])) second_block
-      ≡ record { answer = variant.Differs 1; owners = 0 ∷ 0 ∷ []; derived = derived (words 3 ++ words 0) (120 ∷ 0 ∷ []) (0 ∷ 0 ∷ []) }
+      ≡ record { answer = Ok (variant.Differs 1); owners = 0 ∷ 0 ∷ []; derived = derived (words 3 ++ words 0) (120 ∷ 0 ∷ []) (0 ∷ 0 ∷ []) }
 
 -- ---- wrong replays, on that second block
 

@@ -1,12 +1,10 @@
 -- Demand 3, a definition a sentence: what holds of every list of draws that a component accepts, whatever its rota. Assumes nothing.
-use Rattle.std.specs.Prelude.{◌≡◌, true, List, ◌++◌, ℕ, ◌+◌, ◌^◌, ◌≤◌, ◌<◌, eqb, get_or, take, drop}
+use Rattle.std.specs.Prelude.{◌≡◌, true, List, ◌++◌, ℕ, ◌+◌, ◌^◌, ◌≤◌, ◌<◌, eqb, get_or, take, drop, Ok}
 use Rattle.paper.specs.Limits.{nobody}
 use Rattle.paper.specs.Count.{sum, count}
-use Rattle.slotset.specs.declared.Number.TheVariants as number
 use Rattle.slotset.specs.Slots.{slot}
 use Rattle.slots.specs.Lent.{demand_of}
 use Rattle.units.specs.Units.{unit_of}
-use Rattle.slots.specs.declared.Minutes.TheVariants as minutes
 use Rattle.rota.specs.Acts as acts
 use Rattle.owners.specs.Derived.{known_by, total_of}
 use Rattle.owners.specs.Recount.{available_for, recounts}
@@ -68,14 +66,14 @@ abbrev pub SizesRecount : Component → Type 0
 SizesRecount C =
     (c : Call) → no_of c ≡ 0 → (p : ℕ) → p < c.plan.people
     → C.size (slots_of_is c.plan.people c.plan.slots (C.play c).derived.sets p).set
-    ≡ number.Is (count c.plan.slots (λ k. eqb (after C c k) p))
+    ≡ Ok (count c.plan.slots (λ k. eqb (after C c k) p))
 
 -- "minutes plus uncovered minutes equal the slots' total": the stored uncovered minutes are those that are answered, and this is their sum
 abbrev pub AddsUp : Component → Type 0
 AddsUp C =
     (c : Call) → no_of c ≡ 0
     → let stored = get_or (C.play c).derived.totals 0 0 in
-    (C.uncovered c.plan (C.play c).owners ≡ minutes.Is stored)
+    (C.uncovered c.plan (C.play c).owners ≡ Ok stored)
     × (sum c.plan.people (λ p. get_or (C.play c).derived.minutes p 0) + stored
     ≡ demand_of c.plan.slots c.plan.starts c.plan.ends)
 

@@ -1,12 +1,10 @@
 -- Demand 2, the rota: the recount, and what from_slots, assign and empty leave, as the paper says. Assumes nothing.
-use Rattle.std.specs.Prelude.{◌≡◌, true, cond, List, [], ◌⊎◌, ◌↔◌, ◌≢◌, ℕ, ◌+◌, ◌-◌, ◌*◌, ◌≤◌, ◌<◌, eqb, get_or}
+use Rattle.std.specs.Prelude.{◌≡◌, true, cond, List, [], ◌⊎◌, ◌↔◌, ◌≢◌, ℕ, ◌+◌, ◌-◌, ◌*◌, ◌≤◌, ◌<◌, eqb, get_or, Ok}
 use Rattle.paper.specs.Limits.{nobody}
 use Rattle.paper.specs.Count.{sum, count}
 use Rattle.slotset.specs.Slots.{slot}
-use Rattle.slotset.specs.declared.Number.TheVariants as number
-use Rattle.slotset.specs.Answers.{row_slots, slots_of, number_refusal}
-use Rattle.slots.specs.declared.Minutes.TheVariants.{Is}
-use Rattle.slots.specs.Lent.{minutes_refusal}
+use Rattle.slotset.specs.Answers.{row_slots, slots_of}
+use Rattle.paper.specs.Rows.{answer_refusal}
 use Rattle.units.specs.Units.{unit_start, units_ok, InUnit}
 use Rattle.owners.specs.Derived.{Plan, Derived, worked, uncovered}
 use Rattle.owners.specs.Recount.{recounts}
@@ -66,13 +64,13 @@ pub record RotaByRule : Type 0 where
       → PassesRecount P avail units begins y.owners y.derived)
       × PastKept P.people P.slots o D y
   -- what is answered: a slot's owner, a person's minutes, how many slots nobody owns, and their minutes
-  pub owner-answered : (people slots : ℕ) (o : List ℕ) (k : ℕ) → number_refusal (owner_is people slots o k) ≡ 0
-      → owner_is people slots o k ≡ number.Is (get_or o k 0)
-  pub minutes-answered : (people : ℕ) (m : List ℕ) (p : ℕ) → minutes_refusal (minutes_is people m p) ≡ 0
-      → minutes_is people m p ≡ Is (get_or m p 0)
-  pub unassigned-answered : (people slots : ℕ) (o : List ℕ) → number_refusal (unassigned_is people slots o) ≡ 0
-      → unassigned_is people slots o ≡ number.Is (count slots (λ k. eqb (get_or o k 0) nobody))
-  pub uncovered-answered : (P : Plan) (o : List ℕ) → minutes_refusal (uncovered_is P o) ≡ 0 → uncovered_is P o ≡ Is (worked P o nobody)
+  pub owner-answered : (people slots : ℕ) (o : List ℕ) (k : ℕ) → answer_refusal (owner_is people slots o k) ≡ 0
+      → owner_is people slots o k ≡ Ok (get_or o k 0)
+  pub minutes-answered : (people : ℕ) (m : List ℕ) (p : ℕ) → answer_refusal (minutes_is people m p) ≡ 0
+      → minutes_is people m p ≡ Ok (get_or m p 0)
+  pub unassigned-answered : (people slots : ℕ) (o : List ℕ) → answer_refusal (unassigned_is people slots o) ≡ 0
+      → unassigned_is people slots o ≡ Ok (count slots (λ k. eqb (get_or o k 0) nobody))
+  pub uncovered-answered : (P : Plan) (o : List ℕ) → answer_refusal (uncovered_is P o) ≡ 0 → uncovered_is P o ≡ Ok (worked P o nobody)
   -- a person's slots, as a set by value: as many as there are slots, and each as in the person's row
   pub slots-answered : (people slots : ℕ) (ws : List ℕ) (p : ℕ)
       → let y = slots_of_is people slots ws p in y.number ≡ 0

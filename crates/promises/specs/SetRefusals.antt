@@ -3,43 +3,13 @@
 use Rattle.std.specs.Prelude.{◌≡◌, Bool, List, ℕ, length}
 use Rattle.paper.specs.Limits.{number_of}
 use Rattle.slotset.specs.declared.SlotSet.{SlotSet}
-use Rattle.slotset.specs.declared.Found.{Found}
-use Rattle.slotset.specs.declared.Found.TheVariants as found
-use Rattle.slotset.specs.declared.Run.{Run}
-use Rattle.slotset.specs.declared.Run.TheVariants as run
-use Rattle.slotset.specs.declared.NextRun.{NextRun}
-use Rattle.slotset.specs.declared.NextRun.TheVariants as next_run
-use Rattle.slotset.specs.declared.NextMember.{NextMember}
-use Rattle.slotset.specs.declared.NextMember.TheVariants as next_member
 use Rattle.slotset.specs.Search.{next_with, last_below}
-use Rattle.slotset.specs.Answers.{length_row, slot_row, stretch_row, same_sets_row, person_row, person_stretch_row, yes_no_refusal, number_refusal}
-use Rattle.slotset.specs.Answers.{found_as, yes_no_as, number_as, run_as, next_run_as, next_member_as}
+use Rattle.slotset.specs.Answers.{length_row, slot_row, stretch_row, same_sets_row, person_row, person_stretch_row}
+use Rattle.paper.specs.Rows.{answer_refusal, answer_as}
+use Rattle.slotset.specs.Answers.{run_as, next_run_as, next_member_as}
 use Rattle.slotset.specs.Answers.{new_of, put_of, stretch_of, load_of, store_of, row_stretch_of, cleared_row}
 use Rattle.runs.specs.Listed.{runs_row, all_runs_of}
 use Rattle.promises.specs.Table.{rules, GivenByTests, Refuses}
-
--- the number of an answer, 0 where it is no refusal: slotset's `yes_no_refusal` and `number_refusal`, and
-
-abbrev pub found_refusal : Found → ℕ
-found_refusal (found.At i) = 0
-found_refusal found.Nothing = 0
-found_refusal (found.Refused n) = n
-
-abbrev pub run_refusal : Run → ℕ
-run_refusal (run.Span a b) = 0
-run_refusal (run.Hole a b) = 0
-run_refusal run.Outside = 0
-run_refusal (run.Refused n) = n
-
-abbrev pub next_run_refusal : NextRun → ℕ
-next_run_refusal (next_run.Span a b c) = 0
-next_run_refusal next_run.Done = 0
-next_run_refusal (next_run.Refused n) = n
-
-abbrev pub next_member_refusal : NextMember → ℕ
-next_member_refusal (next_member.Slot i c) = 0
-next_member_refusal next_member.Done = 0
-next_member_refusal (next_member.Refused n) = n
 
 pub record SetsRefuse : Type 0 where
   -- the methods that read, and `new`
@@ -66,13 +36,13 @@ pub record SetsRefuse : Type 0 where
   -- the list of a person's runs
   pub all_runs : (ws : List ℕ) (people person len : ℕ) (firsts lasts : List ℕ)
       → let x = all_runs_of ws people person len firsts lasts in
-      Refuses {A = List ℕ × List ℕ} (rules (runs_row ws people person len (length firsts) (length lasts))) (number_refusal x.answer)
+      Refuses {A = List ℕ × List ℕ} (rules (runs_row ws people person len (length firsts) (length lasts))) (answer_refusal x.answer)
       (firsts, lasts) (x.firsts, x.lasts)
   -- an answer has the number that it was made with, whatever is asked
-  pub found-next : (n v : ℕ) (f : ℕ → ℕ) (len from : ℕ) → found_refusal (found_as n (next_with v f len from)) ≡ n
-  pub found-last : (n v : ℕ) (f : ℕ → ℕ) (len end : ℕ) → found_refusal (found_as n (last_below v f len end)) ≡ n
-  pub answered : (n : ℕ) (b : Bool) → yes_no_refusal (yes_no_as n b) ≡ n
-  pub number : (n k : ℕ) → number_refusal (number_as n k) ≡ n
-  pub run : (n : ℕ) (f : ℕ → ℕ) (len i : ℕ) → run_refusal (run_as n f len i) ≡ n
-  pub next-run : (n : ℕ) (f : ℕ → ℕ) (len at : ℕ) → next_run_refusal (next_run_as n f len at) ≡ n
-  pub next-member : (n : ℕ) (f : ℕ → ℕ) (len at : ℕ) → next_member_refusal (next_member_as n f len at) ≡ n
+  pub found-next : (n v : ℕ) (f : ℕ → ℕ) (len from : ℕ) → answer_refusal (answer_as n (next_with v f len from)) ≡ n
+  pub found-last : (n v : ℕ) (f : ℕ → ℕ) (len end : ℕ) → answer_refusal (answer_as n (last_below v f len end)) ≡ n
+  pub answered : (n : ℕ) (b : Bool) → answer_refusal (answer_as n b) ≡ n
+  pub number : (n k : ℕ) → answer_refusal (answer_as n k) ≡ n
+  pub run : (n : ℕ) (f : ℕ → ℕ) (len i : ℕ) → answer_refusal (run_as n f len i) ≡ n
+  pub next-run : (n : ℕ) (f : ℕ → ℕ) (len at : ℕ) → answer_refusal (next_run_as n f len at) ≡ n
+  pub next-member : (n : ℕ) (f : ℕ → ℕ) (len at : ℕ) → answer_refusal (next_member_as n f len at) ≡ n

@@ -1,12 +1,9 @@
 -- Demand 2, slots and availability: each accepted outcome is the one that the paper's section says. Assumes nothing.
-use Rattle.std.specs.Prelude.{◌≡◌, true, false, List, ◌⊎◌, ◌↔◌, ℕ, ◌-◌, ◌≤◌, ◌<◌, leb, length, get_or}
+use Rattle.std.specs.Prelude.{◌≡◌, true, false, List, ◌⊎◌, ◌↔◌, ℕ, ◌-◌, ◌≤◌, ◌<◌, leb, length, get_or, Ok}
 use Rattle.paper.specs.Limits.{number_of}
 use Rattle.paper.specs.Count.{sum, count}
-use Rattle.slotset.specs.declared.YesNo.TheVariants.{Yes}
-use Rattle.slotset.specs.declared.Number.TheVariants as number
 use Rattle.slotset.specs.Slots.{slot}
 use Rattle.slotset.specs.Answers.{row_slots}
-use Rattle.slots.specs.declared.Minutes.TheVariants as minutes
 use Rattle.slots.specs.Lent.{slots_ok, demand_of, lent_row, slot_minutes_row, demand_is, slot_minutes_is}
 use Rattle.slots.specs.Ranges.{Ranges, in_ranges, available}
 use Rattle.slots.specs.Merged.{merged_of, IsMerged, persons_of, starts_of, ends_of, Columns, merged_row, merged_ranges}
@@ -19,7 +16,7 @@ use Rattle.promises.specs.SetRules.{TheOne}
 -- person, with gaps, none empty, and has exactly the ranges' minutes; it is answered, with its number, at the front of the columns
 pub record Merged (people : ℕ) (R : Ranges) (out : Columns) : Type 0 where
   pub list : TheOne (IsMerged (in_ranges R)) (merged_of R)
-  pub number : (merged_ranges people R out).answer ≡ number.Is (length (merged_of R))
+  pub number : (merged_ranges people R out).answer ≡ Ok (length (merged_of R))
   pub persons : (k : ℕ) → k < length (merged_of R) → get_or (merged_ranges people R out).persons k 0 ≡ get_or (persons_of (merged_of R)) k 0
   pub starts : (k : ℕ) → k < length (merged_of R) → get_or (merged_ranges people R out).starts k 0 ≡ get_or (starts_of (merged_of R)) k 0
   pub ends : (k : ℕ) → k < length (merged_of R) → get_or (merged_ranges people R out).ends k 0 ≡ get_or (ends_of (merged_of R)) k 0
@@ -42,7 +39,7 @@ pub record Split (B : Base) : Type 0 where
       → TheOne (λ c. IsCuts (is_cut B.people B.ranges) (get_or B.starts k 0) c (get_or B.ends k 0))
       (cuts_in (is_cut B.people B.ranges) (get_or B.starts k 0) (get_or B.ends k 0))
   -- the pieces of all of them, in order, are answered with their number at the front of the columns
-  pub number : (atomise_of B).answer ≡ number.Is (length (starts_of_atoms B))
+  pub number : (atomise_of B).answer ≡ Ok (length (starts_of_atoms B))
   pub starts : (k : ℕ) → k < length (starts_of_atoms B) → get_or (atomise_of B).starts k 0 ≡ get_or (starts_of_atoms B) k 0
   pub ends : (k : ℕ) → k < length (starts_of_atoms B) → get_or (atomise_of B).ends k 0 ≡ get_or (ends_of_atoms B) k 0
   -- past their end the columns stay
@@ -61,14 +58,14 @@ pub record Froze (slots : ℕ) (starts ends frozen : List ℕ) (instant : ℕ) :
   pub marked : (k : ℕ) → k < slots → get_or ends k 0 ≤ instant → slot (freeze_of slots starts ends frozen instant).flags 0 k ≡ 1
   pub kept : (k : ℕ) → (k < slots → get_or ends k 0 ≤ instant → ⊥)
       → slot (freeze_of slots starts ends frozen instant).flags 0 k ≡ slot frozen 0 k
-  pub number : (freeze_of slots starts ends frozen instant).answer ≡ number.Is (count slots (λ k. leb (get_or ends k 0) instant))
+  pub number : (freeze_of slots starts ends frozen instant).answer ≡ Ok (count slots (λ k. leb (get_or ends k 0) instant))
 
 pub record SlotsByRule : Type 0 where
   -- the length of a slot is its end less its start; demand is the sum of all
   pub slot-minutes : (slots : ℕ) (starts ends : List ℕ) (k : ℕ) → number_of (slot_minutes_row slots starts ends k) ≡ 0
-      → slot_minutes_is slots starts ends k ≡ minutes.Is (get_or ends k 0 - get_or starts k 0)
+      → slot_minutes_is slots starts ends k ≡ Ok (get_or ends k 0 - get_or starts k 0)
   pub demand : (slots : ℕ) (starts ends : List ℕ) → number_of (lent_row slots starts ends) ≡ 0
-      → demand_is slots starts ends ≡ minutes.Is (sum slots (λ k. get_or ends k 0 - get_or starts k 0))
+      → demand_is slots starts ends ≡ Ok (sum slots (λ k. get_or ends k 0 - get_or starts k 0))
   -- a minute lies in one of a person's ranges: it is not before its start, and before its end
   pub lies : (R : Ranges) (p t : ℕ)
       → (in_ranges R p t ≡ true)
@@ -79,7 +76,7 @@ pub record SlotsByRule : Type 0 where
   pub available : (people slots : ℕ) (starts ends : List ℕ) (R : Ranges) (words : List ℕ)
       → number_of (availability_row people slots starts ends R words) ≡ 0
       → (p k : ℕ) → p < people → k < slots
-      → (is_available people slots (availability_of people slots starts ends R words) p k ≡ Yes)
+      → (is_available people slots (availability_of people slots starts ends R words) p k ≡ (Ok true))
       ↔ ((t : ℕ) → get_or starts k 0 ≤ t → t < get_or ends k 0 → in_ranges R p t ≡ true)
   -- a bit at or past the slot count, and the sets past the people, stay
   pub past : (people slots : ℕ) (starts ends : List ℕ) (R : Ranges) (words : List ℕ)

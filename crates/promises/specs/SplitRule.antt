@@ -1,8 +1,7 @@
 -- Splitting, of what the entry leaves: base slot by base slot, its start and its cuts are where its pieces start, its cuts and its end are
 -- where they end, and they add up to it. Assumes nothing.
-use Rattle.std.specs.Prelude.{◌≡◌, List, [], ◌∷◌, ◌++◌, ℕ, zero, suc, ◌+◌, ◌-◌, ◌<◌, length, get_or}
+use Rattle.std.specs.Prelude.{◌≡◌, List, [], ◌∷◌, ◌++◌, ℕ, zero, suc, ◌+◌, ◌-◌, ◌<◌, length, get_or, Ok}
 use Rattle.paper.specs.Limits.{number_of}
-use Rattle.slotset.specs.declared.Number.TheVariants as number
 use Rattle.slots.specs.Atomic.{Base, atomise_of, atomise_row, is_cut, IsCuts}
 
 -- the lists of 0, 1 and on, below n, one after the other
@@ -22,7 +21,7 @@ lengths (s ∷ starts) (e ∷ ends) = e - s + lengths starts ends
 
 -- where c k are the cuts of base slot k, for each k: the pieces that are left
 pub record LeavesPieces (B : Base) (c : ℕ → List ℕ) : Type 0 where
-  pub number : (atomise_of B).answer ≡ number.Is (length (strung (λ k. get_or B.starts k 0 ∷ c k) B.slots))
+  pub number : (atomise_of B).answer ≡ Ok (length (strung (λ k. get_or B.starts k 0 ∷ c k) B.slots))
   pub starts : (i : ℕ) → i < length (strung (λ k. get_or B.starts k 0 ∷ c k) B.slots)
       → get_or (atomise_of B).starts i 0 ≡ get_or (strung (λ k. get_or B.starts k 0 ∷ c k) B.slots) i 0
   pub ends : (i : ℕ) → i < length (strung (λ k. get_or B.starts k 0 ∷ c k) B.slots)

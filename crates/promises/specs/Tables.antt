@@ -5,16 +5,16 @@ use Rattle.std.specs.Prelude.{◌≡◌, true, List, [], ◌∷◌, ◌++◌, �
 use Rattle.paper.specs.Limits.{number_of}
 use Rattle.slotset.specs.declared.SlotSet.{SlotSet}
 use Rattle.slotset.specs.Answers.{length_row, person_row, same_sets_row, person_stretch_row, row_slots, new_of, put_of, stretch_of, load_of}
-use Rattle.slotset.specs.Answers.{yes_no_refusal, number_refusal}
+use Rattle.paper.specs.Rows.{answer_refusal}
 use Rattle.runs.specs.Listed.{all_runs_of}
-use Rattle.slots.specs.Lent.{demand_is, slot_minutes_is, minutes_refusal}
+use Rattle.slots.specs.Lent.{demand_is, slot_minutes_is}
 use Rattle.slots.specs.Ranges.{Ranges}
 use Rattle.slots.specs.Merged.{Columns, merged_ranges}
 use Rattle.slots.specs.Atomic.{Base, atomise_of}
 use Rattle.slots.specs.Availability.{availability_row, is_available}
 use Rattle.slots.specs.Freeze.{freeze_of}
 use Rattle.units.specs.declared.Settings.{Settings}
-use Rattle.units.specs.Answers.{unit_count_is, unit_slots_is, unit_of_slot_is, span_refusal}
+use Rattle.units.specs.Answers.{unit_count_is, unit_slots_is, unit_of_slot_is}
 use Rattle.units.specs.Starts.{rotation_starts_is, unit_starts_is}
 use Rattle.units.specs.Days.{covered_days_is, minutes_per_day_is, target_run_is}
 use Rattle.units.specs.Domains.{unit_frozen_is, slot_domain_is, unit_domain_is, unit_domains_row}
@@ -273,52 +273,52 @@ pub record SetsByTable : Type 0 where
       → GivenBy (row_table ws people person len (reaches_past a e len ∷ [])) (number_of (person_stretch_row ws people person len a e))
   pub same-sets : (ws vs : List ℕ) (people len : ℕ) → GivenBy (same_sets_table ws vs people len) (number_of (same_sets_row ws vs people len))
   pub all_runs : (ws : List ℕ) (people person len : ℕ) (begins lasts : List ℕ)
-      → GivenBy (runs_table ws people person len begins lasts) (number_refusal (all_runs_of ws people person len begins lasts).answer)
+      → GivenBy (runs_table ws people person len begins lasts) (answer_refusal (all_runs_of ws people person len begins lasts).answer)
 
 pub record SlotsByTable : Type 0 where
-  pub demand : (slots : ℕ) (starts ends : List ℕ) → GivenBy (slots_table slots starts ends []) (minutes_refusal (demand_is slots starts
+  pub demand : (slots : ℕ) (starts ends : List ℕ) → GivenBy (slots_table slots starts ends []) (answer_refusal (demand_is slots starts
       ends))
   pub slot-minutes : (slots : ℕ) (starts ends : List ℕ) (k : ℕ)
-      → GivenBy (slots_table slots starts ends (not_below k slots ∷ [])) (minutes_refusal (slot_minutes_is slots starts ends k))
+      → GivenBy (slots_table slots starts ends (not_below k slots ∷ [])) (answer_refusal (slot_minutes_is slots starts ends k))
   pub merged-ranges : (people : ℕ) (R : Ranges) (out : Columns)
-      → GivenBy (merged_table people R out) (number_refusal (merged_ranges people R out).answer)
-  pub atomise : (B : Base) → GivenBy (atomise_table B) (number_refusal (atomise_of B).answer)
+      → GivenBy (merged_table people R out) (answer_refusal (merged_ranges people R out).answer)
+  pub atomise : (B : Base) → GivenBy (atomise_table B) (answer_refusal (atomise_of B).answer)
   pub availability : (people slots : ℕ) (starts ends : List ℕ) (R : Ranges) (words : List ℕ)
       → GivenBy (availability_table people slots starts ends R words) (number_of (availability_row people slots starts ends R words))
   pub freeze-before : (slots : ℕ) (starts ends frozen : List ℕ) (instant : ℕ)
-      → GivenBy (freeze_table slots starts ends frozen) (number_refusal (freeze_of slots starts ends frozen instant).answer)
+      → GivenBy (freeze_table slots starts ends frozen) (answer_refusal (freeze_of slots starts ends frozen instant).answer)
   pub is-available : (people slots : ℕ) (words : List ℕ) (person slot : ℕ)
-      → GivenBy (available_table people slots words person slot) (yes_no_refusal (is_available people slots words person slot))
+      → GivenBy (available_table people slots words person slot) (answer_refusal (is_available people slots words person slot))
 
 pub record UnitsByTable : Type 0 where
   pub unit-count : (slots units : ℕ) (begins : List ℕ)
-      → GivenBy (units_table slots units begins []) (number_refusal (unit_count_is slots units begins))
+      → GivenBy (units_table slots units begins []) (answer_refusal (unit_count_is slots units begins))
   pub unit-slots : (slots units : ℕ) (begins : List ℕ) (u : ℕ)
-      → GivenBy (units_table slots units begins (not_below u units ∷ [])) (span_refusal (unit_slots_is slots units begins u))
+      → GivenBy (units_table slots units begins (not_below u units ∷ [])) (answer_refusal (unit_slots_is slots units begins u))
   pub unit-of-slot : (slots units : ℕ) (begins : List ℕ) (k : ℕ)
-      → GivenBy (units_table slots units begins (not_below k slots ∷ [])) (number_refusal (unit_of_slot_is slots units begins k))
+      → GivenBy (units_table slots units begins (not_below k slots ∷ [])) (answer_refusal (unit_of_slot_is slots units begins k))
   pub rotation-starts : (s : Settings) (slots : ℕ) (starts ends list : List ℕ)
-      → GivenBy (starts_table s slots starts ends list) (number_refusal (rotation_starts_is s slots starts ends list).answer)
+      → GivenBy (starts_table s slots starts ends list) (answer_refusal (rotation_starts_is s slots starts ends list).answer)
   pub unit-starts : (s : Settings) (slots : ℕ) (starts ends list : List ℕ)
-      → GivenBy (starts_table s slots starts ends list) (number_refusal (unit_starts_is s slots starts ends list).answer)
+      → GivenBy (starts_table s slots starts ends list) (answer_refusal (unit_starts_is s slots starts ends list).answer)
   pub unit-frozen : (frozen : List ℕ) (slots units : ℕ) (begins : List ℕ) (u : ℕ)
-      → GivenBy (unit_frozen_table frozen slots units begins u) (yes_no_refusal (unit_frozen_is frozen slots units begins u))
+      → GivenBy (unit_frozen_table frozen slots units begins u) (answer_refusal (unit_frozen_is frozen slots units begins u))
   pub slot-domain : (avail : List ℕ) (people slots k : ℕ) (list : List ℕ)
-      → GivenBy (slot_domain_table avail people slots k list) (number_refusal (slot_domain_is avail people slots k list).answer)
+      → GivenBy (slot_domain_table avail people slots k list) (answer_refusal (slot_domain_is avail people slots k list).answer)
   pub unit-domain : (avail : List ℕ) (people slots units : ℕ) (begins : List ℕ) (u : ℕ) (list : List ℕ)
       → GivenBy (unit_domain_table avail people slots units begins u list)
-      (number_refusal (unit_domain_is avail people slots units begins u list).answer)
+      (answer_refusal (unit_domain_is avail people slots units begins u list).answer)
   pub unit-domains : (avail : List ℕ) (people slots units : ℕ) (begins masks : List ℕ)
       → GivenBy (unit_domains_table avail people slots units begins masks) (number_of (unit_domains_row avail people slots units begins masks))
   pub covered-days : (slots : ℕ) (starts ends : List ℕ)
-      → GivenBy (slots_table slots starts ends []) (number_refusal (covered_days_is slots starts ends))
+      → GivenBy (slots_table slots starts ends []) (answer_refusal (covered_days_is slots starts ends))
   pub minutes-per-day : (slots : ℕ) (starts ends : List ℕ)
-      → GivenBy (slots_table slots starts ends []) (minutes_refusal (minutes_per_day_is slots starts ends))
+      → GivenBy (slots_table slots starts ends []) (answer_refusal (minutes_per_day_is slots starts ends))
   pub target_run : (s : Settings) (slots : ℕ) (starts ends : List ℕ)
-      → GivenBy (target_run_table s slots starts ends) (minutes_refusal (target_run_is s slots starts ends))
+      → GivenBy (target_run_table s slots starts ends) (answer_refusal (target_run_is s slots starts ends))
   pub achievable-run : (s : Settings) (avail : List ℕ) (people p slots : ℕ) (starts ends : List ℕ)
       → GivenBy (achievable_run_table s avail people p slots starts ends)
-      (minutes_refusal (achievable_run_is s avail people p slots starts ends))
+      (answer_refusal (achievable_run_is s avail people p slots starts ends))
   pub achievable-runs : (s : Settings) (avail : List ℕ) (people slots : ℕ) (starts ends runs : List ℕ)
       → GivenBy (achievable_runs_table s avail people slots starts ends runs)
       (number_of (achievable_runs_row s avail people slots starts ends runs))
@@ -340,10 +340,10 @@ pub record RotaByTable : Type 0 where
   pub play-draws : (c : Call) (ds : List Draw) → GivenBy (play_table c (length ds) (length ds) (length ds)) (play_draws_of c ds).refusal.number
   pub empty : (P : Plan) (o : List ℕ) (D : Derived) → GivenBy (empty_table P o D) (state.emptied P o D).refusal.number
   pub owner-of-slot : (people slots : ℕ) (o : List ℕ) (k : ℕ)
-      → GivenBy (owner_table people slots o k) (number_refusal (state.owner_is people slots o k))
-  pub minutes-of : (people : ℕ) (m : List ℕ) (p : ℕ) → GivenBy (minutes_table people m p) (minutes_refusal (state.minutes_is people m p))
+      → GivenBy (owner_table people slots o k) (answer_refusal (state.owner_is people slots o k))
+  pub minutes-of : (people : ℕ) (m : List ℕ) (p : ℕ) → GivenBy (minutes_table people m p) (answer_refusal (state.minutes_is people m p))
   pub slots-of : (people slots : ℕ) (ws : List ℕ) (p : ℕ)
       → GivenBy (slots_of_table people slots ws p) (state.slots_of_is people slots ws p).number
   pub unassigned-count : (people slots : ℕ) (o : List ℕ)
-      → GivenBy (unassigned_table people slots o) (number_refusal (state.unassigned_is people slots o))
-  pub uncovered-minutes : (P : Plan) (o : List ℕ) → GivenBy (uncovered_table P o) (minutes_refusal (state.uncovered_is P o))
+      → GivenBy (unassigned_table people slots o) (answer_refusal (state.unassigned_is people slots o))
+  pub uncovered-minutes : (P : Plan) (o : List ℕ) → GivenBy (uncovered_table P o) (answer_refusal (state.uncovered_is P o))

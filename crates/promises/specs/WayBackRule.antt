@@ -1,7 +1,8 @@
 -- The function way_back, by its rule: what it writes is the way back and leads there; where it tells a unit there is none; and when it refuses.
 -- Assumes nothing.
-use Rattle.std.specs.Prelude.{◌≡◌, cond, List, [], ◌∷◌, ℕ, ◌≤◌, ◌<◌, eqb, length, get_or, replicate, take}
+use Rattle.std.specs.Prelude.{◌≡◌, cond, List, [], ◌∷◌, ℕ, ◌≤◌, ◌<◌, eqb, length, get_or, replicate, take, Result, Ok, Err}
 use Rattle.paper.specs.Limits.{Test, number_of}
+use Rattle.paper.specs.declared.Refusal.{Refusal}
 use Rattle.paper.specs.Rows.{refusal_of}
 use Rattle.paper.specs.Count.{onto}
 use Rattle.owners.specs.Derived.{afresh}
@@ -36,14 +37,13 @@ way_tests c q =
     q.seconds
 
 -- the number of its refusal; 0 for draws and for a unit
-abbrev pub way_refusal : Way → ℕ
-way_refusal (way.Draws n) = 0
-way_refusal (way.NoWay u) = 0
-way_refusal (way.Refused f) = f.number
+abbrev pub way_refusal : Result Way Refusal → ℕ
+way_refusal (Ok w) = 0
+way_refusal (Err f) = f.number
 
 -- the answer that a C caller reads of its number and of what is told beside it
-abbrev pub read_way : ℕ → ℕ → Way
-read_way v told = cond (eqb v 0) (way.Draws told) (cond (eqb v 65536) (way.NoWay told) (way.Refused (read_refusal v)))
+abbrev pub read_way : ℕ → ℕ → Result Way Refusal
+read_way v told = cond (eqb v 0) (Ok (way.Draws told)) (cond (eqb v 65536) (Ok (way.NoWay told)) (Err (read_refusal v)))
 
 -- ---- the draws
 
@@ -80,22 +80,22 @@ pub record Blocks (C : Component) (c : Call) (q : Asked) (u : ℕ) : Type 0 wher
 -- ---- the rule
 
 pub record WayByRule (C : Component) : Type 0 where
-  pub draws : (c : Call) (q : Asked) (n : ℕ) → (way_for c q).answer ≡ way.Draws n → Leads C c q n
-  pub unit : (c : Call) (q : Asked) (u : ℕ) → (way_for c q).answer ≡ way.NoWay u → Blocks C c q u
+  pub draws : (c : Call) (q : Asked) (n : ℕ) → (way_for c q).answer ≡ Ok (way.Draws n) → Leads C c q n
+  pub unit : (c : Call) (q : Asked) (u : ℕ) → (way_for c q).answer ≡ Ok (way.NoWay u) → Blocks C c q u
   -- where nothing is refused and no unit is in the way, the draws are answered
   pub found : (c : Call) (q : Asked) → number_of (way_tests c q) ≡ 0
       → ((u : ℕ) → InWay (board_in c) q.remembered c.owners u → ⊥)
-      → (way_for c q).answer ≡ way.Draws (length (back (board_in c) q.remembered c.owners))
+      → (way_for c q).answer ≡ Ok (way.Draws (length (back (board_in c) q.remembered c.owners)))
   -- refused by the table, with part and place, and the columns as they were
   pub refused : (c : Call) (q : Asked)
       → Refuses {A = List ℕ × List ℕ × List ℕ} (rules (way_tests c q)) (way_refusal (way_for c q).answer)
       (q.draws, q.firsts, q.seconds) (let y = way_for c q in (y.draws, y.firsts, y.seconds))
   pub with-place : (c : Call) (q : Asked) → (number_of (way_tests c q) ≡ 0 → ⊥)
-      → (way_for c q).answer ≡ way.Refused (refusal_of (way_tests c q))
+      → (way_for c q).answer ≡ Err (refusal_of (way_tests c q))
   -- in C: the answer that was meant, whatever was lent for what is told
   pub reads : (c : Call) (q : Asked) (was : ℕ)
       → let w = (way_for c q).answer in read_way (way_number w) (way_told was w) ≡ w
   -- it is not empty: two units, owners 0 and 1, remembered 1 and 1: one draw
   pub example : way_for no_draw
       record { remembered = 1 ∷ 1 ∷ []; draws = replicate 2 9; firsts = replicate 2 9; seconds = replicate 2 9 }
-      ≡ record { answer = way.Draws 1; draws = 0 ∷ 9 ∷ []; firsts = 0 ∷ 9 ∷ []; seconds = 1 ∷ 9 ∷ [] }
+      ≡ record { answer = Ok (way.Draws 1); draws = 0 ∷ 9 ∷ []; firsts = 0 ∷ 9 ∷ []; seconds = 1 ∷ 9 ∷ [] }

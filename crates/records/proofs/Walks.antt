@@ -2,7 +2,7 @@
 use mathlib.Core.Path.{◌≡◌, refl, sym, ap, ap₂, ◌∙◌}
 use mathlib.Core.Bool.{Bool, true, false, cond, ◌&&◌}
 use mathlib.Core.List.{List}
-use Prim.Native.Nat.{ℕ, zero, suc, ◌+◌, ◌*◌, ◌≤◌, ◌<◌}
+use Prim.Native.Nat.{ℕ, zero, suc, ◌+◌, ◌*◌, min, ◌≤◌, ◌<◌}
 use native.Mathlib.Nat.{suc-mul}
 use native.Mathlib.Numerals.{add-one}
 use native.Mathlib.Omega.{arith}
@@ -152,8 +152,8 @@ pub over_done : (f : ℕ → ℕ) (l x : List ℕ) (i n : ℕ) → i ≡ n → x
 over_done f l x i n e h = h ∙ ap (λ (k : ℕ). over f k l) e
 
 -- no more kinds than a walk counts
-pub kinds-few : (n : ℕ) → n ≤ 8 → kinds_most n ≡ n
-kinds-few n h = simp (le-leb n 8 h)
-
-pub kinds-many : (n : ℕ) → 8 < n → kinds_most n ≡ 8
-kinds-many n h = simp (lt-leb n 8 h)
+pub kinds-least : (n : ℕ) → min n 8 ≡ kinds_most n
+kinds-least n =
+    by-test (leb n 8) _
+    (λ t. let h : min n 8 ≡ n = omega (arith, leb-true n 8 t) in h ∙ sym (ap (λ (b : Bool). cond b n 8) t))
+    (λ f. let h : min n 8 ≡ 8 = omega (arith, leb-false n 8 f) in h ∙ sym (ap (λ (b : Bool). cond b n 8) f))

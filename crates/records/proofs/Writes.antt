@@ -1,45 +1,18 @@
 -- Laws of one record written into a lent buffer. Assumes nothing.
-use mathlib.Core.Path.{◌≡◌, sym, ap, ap₂, ◌∙◌}
+use mathlib.Core.Path.{◌≡◌, sym, ap, ◌∙◌}
 use mathlib.Core.Bool.{true, false}
 use mathlib.Core.List.{List, [], ◌∷◌}
 use mathlib.Core.Logic.{◌⊎◌, ⊎_elim}
 use Prim.Native.Nat.{ℕ, ◌+◌, ◌/◌, ◌%◌, ◌≤◌, ◌<◌}
-use native.Mathlib.Numerals.{add-one}
 use native.Mathlib.Omega.{arith}
 use borrow.Author.Tests.{le-leb, lt-leb}
-use lib.ListN.{length, get_or, set, take}
-use lib.Seq.{length-take-le, take-length, take-suc}
+use lib.ListN.{length}
 use Rattle.paper.proofs.Logic.{lt-or-ge}
 use Rattle.records.specs.Fields.{le_bytes}
 use Rattle.records.specs.Records.{bytes_of}
 use Rattle.records.specs.Puts.{put}
 use Rattle.records.specs.Writes.{written, record_fits, with_record}
-use Rattle.records.proofs.Puts.{length-put, put-none, put-put, wrote_one}
-
--- ---- a loop that copies l to `at`
-
-pub bytes-more : (l : List ℕ) (at : ℕ) (x y : List ℕ) (k : ℕ) → y ≡ put (take k l) at x → k < length l → at + length l ≤ length x
-    → set y (at + k) (get_or l k 0) ≡ put (take (k + 1) l) at x
-bytes-more l at x y k e h r =
-    let n = length-take-le k l (omega arith) in
-    let v = get_or l k 0 ∷ [] in
-    let p : at + length (take k l) ≡ at + k = omega (arith, n) in
-    (wrote_one (get_or l k 0) (at + k) y
-    (omega (arith, ap length e, length-put (take k l) at x (omega (arith, n))))).text
-    ∙ ap₂ (λ (i : ℕ) (z : List ℕ). put v i z) (sym p) e
-    ∙ put-put (take k l) v at x (omega (arith, n))
-    ∙ ap (λ (t : List ℕ). put t at x) (sym (ap (λ (i : ℕ). take i l) (add-one k) ∙ take-suc l k 0 h))
-
-pub bytes-done : (l : List ℕ) (at : ℕ) (x y : List ℕ) (k : ℕ) → y ≡ put (take k l) at x → k ≡ length l → y ≡ put l at x
-bytes-done l at x y k e h = e ∙ ap (λ (t : List ℕ). put t at x) (ap (λ (i : ℕ). take i l) h ∙ take-length l)
-
-pub bytes-none : (l : List ℕ) (at : ℕ) (x : List ℕ) → x ≡ put (take 0 l) at x
-bytes-none l at x = sym (put-none at x)
-
-pub bytes-length : (l : List ℕ) (at : ℕ) (x y : List ℕ) (k : ℕ) → y ≡ put (take k l) at x → k ≤ length l → at + length l ≤ length x
-    → length y ≡ length x
-bytes-length l at x y k e h r =
-    ap length e ∙ length-put (take k l) at x (omega (arith, length-take-le k l h))
+use Rattle.records.proofs.Puts.{put-put}
 
 -- ---- the record
 

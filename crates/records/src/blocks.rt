@@ -28,10 +28,7 @@ fn record_at(s: &[u8], kind: usize, size: usize, at: usize) -> bool
     if s.len() - at < 4 + size {
         return false;
     }
-    if number_at(s, at, 2) == size as u64 {
-        return number_at(s, at + 2, 2) == kind as u64;
-    }
-    false
+    number_at(s, at, 2) == size as u64 && number_at(s, at + 2, 2) == kind as u64
 }
 
 // The records of this kind and size that stand one after the other from `at` on.
@@ -42,6 +39,7 @@ fn block_from(s: &[u8], kind: usize, size: usize, at: usize) -> Block
 {
     let mut count: usize = 0;
     let mut end = at;
+    // a while: each step jumps to the end of the record that was found, so no range is walked
     while record_at(s, kind, size, end) {
         count += 1;
         end += 4 + size;
@@ -59,24 +57,14 @@ fn walk_kinds(s: &[u8], first: u16, kinds: usize, sizes: [u16; 8], limit: usize)
     let mut counts = [0usize; 8];
     let mut starts = [0usize; 8];
     let mut at: usize = 0;
-    let mut i: usize = 0;
-    while i < kinds {
+    for i in 0..kinds {
         let b = block_from(s, first as usize + i, sizes[i] as usize, at);
         counts[i] = b.count;
         starts[i] = at;
         at = b.end;
-        i += 1;
-    }
-    let whole = at == s.len();
-    if s.len() <= limit {
-        return Walked {
-            ok: whole,
-            counts,
-            starts,
-        };
     }
     Walked {
-        ok: false,
+        ok: s.len() <= limit && at == s.len(),
         counts,
         starts,
     }
@@ -90,8 +78,5 @@ pub fn walk(s: &[u8], first: u16, kinds: usize, sizes: [u16; 8], limit: usize) -
     ensures starts_value { result.starts ≡ over (block_at (layout first (kinds_most kinds) sizes) s.now) (kinds_most kinds)
         (replicate 8 0) }
 {
-    if kinds <= 8 {
-        return walk_kinds(s, first, kinds, sizes, limit);
-    }
-    walk_kinds(s, first, 8, sizes, limit)
+    walk_kinds(s, first, kinds.min(8), sizes, limit)
 }

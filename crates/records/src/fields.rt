@@ -8,9 +8,7 @@ pub(crate) fn number_at(s: &[u8], at: usize, width: usize) -> u64
     ensures { (result ≡ le width s.now at) × (result < 256 ^ width) }
 {
     let mut value: u64 = 0;
-    let mut left = width;
-    while left > 0 {
-        left -= 1;
+    for left in (0..width).rev() {
         value = value * 256 + s[at + left] as u64;
     }
     value
@@ -20,13 +18,7 @@ pub(crate) fn number_at(s: &[u8], at: usize, width: usize) -> u64
 pub fn field(s: &[u8], at: usize, width: usize) -> u64
     ensures { (result ≡ field_at width s.now at) × (result < 256 ^ width) }
 {
-    if 8 < width {
-        return 0;
-    }
-    if s.len() < width {
-        return 0;
-    }
-    if s.len() - width < at {
+    if width > 8 || s.len() < width || s.len() - width < at {
         return 0;
     }
     number_at(s, at, width)

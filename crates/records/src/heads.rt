@@ -9,10 +9,7 @@ use crate::fields::number_at;
 pub fn head_at(s: &[u8], at: usize) -> Head
     ensures { result ≡ head_at s.now at }
 {
-    if s.len() < 4 {
-        return Head::Nothing;
-    }
-    if s.len() - 4 < at {
+    if s.len() < 4 || s.len() - 4 < at {
         return Head::Nothing;
     }
     let size = number_at(s, at, 2) as usize;

@@ -8,11 +8,7 @@ fn put_bytes(area: &mut [u8], at: usize, l: &[u8])
     requires { at + length l.now ≤ length area.old }
     ensures { area.new ≡ put l.now at area.old }
 {
-    let mut k: usize = 0;
-    while k < l.len() {
-        area[at + k] = l[k];
-        k += 1;
-    }
+    area[at..at + l.len()].copy_from_slice(l);
 }
 
 // A record of this kind and body from `at` on, where it has room; whether it has. A body has at most 65,535 bytes.
@@ -24,10 +20,7 @@ pub fn put_record(area: &mut [u8], at: usize, kind: u16, body: &[u8]) -> bool
     if 65535 < size {
         return false;
     }
-    if area.len() < 4 + size {
-        return false;
-    }
-    if area.len() - (4 + size) < at {
+    if area.len() < 4 + size || area.len() - (4 + size) < at {
         return false;
     }
     let head = [

@@ -1,4 +1,5 @@
 -- Laws of a block's columns. Assumes nothing.
+use Rattle.std.specs.Prelude.{Result, Err}
 use mathlib.Core.Path.{◌≡◌, sym, ap, ◌∙◌}
 use mathlib.Core.Bool.{Bool, true, false, cond}
 use mathlib.Core.List.{List}
@@ -13,7 +14,6 @@ use Rattle.records.specs.Fields.{le, field_at}
 use Rattle.records.proofs.Numbers.{field_is}
 use Rattle.records.proofs.Walks.{over-turn}
 use Rattle.replay.specs.declared.BlockRead.{BlockRead}
-use Rattle.replay.specs.declared.BlockRead.TheVariants as read
 use Rattle.replay.specs.Reading.{block_read, draws_in, fields_of, columns_room, read_answer, ReadsAs}
 
 pub fields-none : (t : List ℕ) (off : ℕ) (x : List ℕ) → x ≡ fields_of t off 0 x
@@ -41,13 +41,13 @@ room_says n ks fs ss rs e =
     let x = four (leb n (length ks)) (leb n (length fs)) (leb n (length ss)) (leb n (length rs)) e in
     (leb-true _ _ x.0, leb-true _ _ x.1, leb-true _ _ x.2, leb-true _ _ x.3)
 
-module _ (t : List ℕ) (blocks : ℕ) (ks fs ss rs : List ℕ) (r : BlockRead) (e : r ≡ block_read t blocks) (n : ℕ) (d : n ≡ draws_in r) where
-  answer-by : (b : Bool) → columns_room n ks fs ss rs ≡ b → read_answer t blocks ks fs ss rs ≡ cond b r (read.Refused 2)
+module _ (t : List ℕ) (blocks : ℕ) (ks fs ss rs : List ℕ) (r : Result BlockRead ℕ) (e : r ≡ block_read t blocks) (n : ℕ) (d : n ≡ draws_in r) where
+  answer-by : (b : Bool) → columns_room n ks fs ss rs ≡ b → read_answer t blocks ks fs ss rs ≡ cond b r (Err 2)
   unfolding read_answer
   answer-by b g =
-      ap (λ (x : BlockRead). cond (columns_room (draws_in x) ks fs ss rs) x (read.Refused 2)) (sym e)
-      ∙ ap (λ (k : ℕ). cond (columns_room k ks fs ss rs) r (read.Refused 2)) (sym d)
-      ∙ ap (λ (x : Bool). cond x r (read.Refused 2)) g
+      ap (λ (x : Result BlockRead ℕ). cond (columns_room (draws_in x) ks fs ss rs) x (Err 2)) (sym e)
+      ∙ ap (λ (k : ℕ). cond (columns_room k ks fs ss rs) r (Err 2)) (sym d)
+      ∙ ap (λ (x : Bool). cond x r (Err 2)) g
 
   pub reads_all : (ks' fs' ss' rs' : List ℕ) → columns_room n ks fs ss rs ≡ true → ks' ≡ fields_of t 4 n ks → fs' ≡ fields_of t 6 n fs
       → ss' ≡ fields_of t 8 n ss → rs' ≡ fields_of t 10 n rs → ReadsAs t blocks ks fs ss rs r ks' fs' ss' rs'
@@ -59,7 +59,7 @@ module _ (t : List ℕ) (blocks : ℕ) (ks fs ss rs : List ℕ) (r : BlockRead) 
     recorded = f ∙ ap (λ (k : ℕ). fields_of t 10 k rs) d;
   }
 
-  pub reads_short : columns_room n ks fs ss rs ≡ false → ReadsAs t blocks ks fs ss rs (read.Refused 2) ks fs ss rs
+  pub reads_short : columns_room n ks fs ss rs ≡ false → ReadsAs t blocks ks fs ss rs (Err 2) ks fs ss rs
   reads_short g = record {
     said = sym (answer-by false g);
     draws = fields-none t 4 ks;

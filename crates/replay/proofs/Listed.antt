@@ -1,4 +1,5 @@
 -- A block is read exactly where the records of one stand there, and refused exactly by the first faulty record. Assumes nothing.
+use Rattle.std.specs.Prelude.{Result, Ok, Err}
 use mathlib.Core.Path.{◌≡◌, refl, sym, ap, ap₂, ◌∙◌, subst}
 use mathlib.Core.Logic.{◌↔◌, ◌⊎◌, inl, inr, ⊎_elim}
 use mathlib.Core.Bool.{Bool, true, false, cond}
@@ -297,10 +298,10 @@ module _ (t : List ℕ) (blocks : ℕ) where
         (λ (g : 1024 ≤ n). leading-full t blocks n leads g)
         (lt-or-ge n 1024)
 
-    one : (t ≡ [] → ⊥) → n ≡ leading_draws t blocks → 1 ≡ fault_at t blocks n → read.Refused 1 ≡ block_read t blocks
+    one : (t ≡ [] → ⊥) → n ≡ leading_draws t blocks → 1 ≡ fault_at t blocks n → Err 1 ≡ block_read t blocks
     one some l f = block-faulty t blocks n (λ z. some (no_bytes t z)) l 1 f (λ z. omega arith)
 
-    refused-is : (k : ℕ) → Bytes t → (t ≡ [] → ⊥) → Faulty blocks n u k → read.Refused k ≡ block_read t blocks
+    refused-is : (k : ℕ) → Bytes t → (t ≡ [] → ⊥) → Faulty blocks n u k → Err k ≡ block_read t blocks
     refused-is k b some (neither d c) =
         let no = no-draw b d in
         block-faulty t blocks n (λ z. some (no_bytes t z)) (ends_there no) 13 (fault-other t blocks n no (no-close b c)) (λ z. omega arith)
@@ -320,7 +321,7 @@ module _ (t : List ℕ) (blocks : ℕ) where
         (⊎_elim (λ (l : blocks < blocks_most). fault-draw-many t blocks n at no l h)
         (λ (g : blocks_most ≤ blocks). fault-block-many t blocks n at no g) (lt-or-ge blocks blocks_most))
 
-    block-read : blocks < blocks_most → CloseFirst u → read.Block n (n * 12 + 4) ≡ block_read t blocks
+    block-read : blocks < blocks_most → CloseFirst u → Ok (read.Block n (n * 12 + 4)) ≡ block_read t blocks
     unfolding close_at
     block-read h c =
         let at = next-close c in
@@ -333,15 +334,15 @@ module _ (t : List ℕ) (blocks : ℕ) where
       let ds = B.draws in
       B.is ∙ ap (λ (l : List ℕ). l ++ B.rest) (block-splits ds) ∙ append_assoc (draws_bytes ds) (bytes_of close_record) B.rest
 
-  listed-block : (n next : ℕ) → BlockFirst t blocks n next → read.Block n next ≡ block_read t blocks
+  listed-block : (n next : ℕ) → BlockFirst t blocks n next → Ok (read.Block n next) ≡ block_read t blocks
   listed-block n next B =
-      ap₂ read.Block B.count (B.ends ∙ block-length B.draws)
+      ap₂ {C = Result BlockRead ℕ} (λ (k m : ℕ). Ok (read.Block k m)) B.count (B.ends ∙ block-length B.draws)
       ∙ block-read B.draws (bytes_of close_record ++ B.rest) B.fine (close-after n next B) B.may (record { rest = B.rest; is = refl })
 
-  pub listed-read : (r : BlockRead) → Bytes t → ReadOf t blocks r → r ≡ block_read t blocks
-  listed-read (read.Block n next) b B = listed-block n next B
-  listed-read read.End b e = block-end t blocks (ap length e)
-  listed-read (read.Refused k) b R = refused-is R.draws R.rest R.fine R.is k b R.some R.faulty
+  pub listed-read : (r : Result BlockRead ℕ) → Bytes t → ReadOf t blocks r → r ≡ block_read t blocks
+  listed-read (Ok (read.Block n next)) b B = listed-block n next B
+  listed-read (Ok read.End) b e = block-end t blocks (ap length e)
+  listed-read (Err k) b R = refused-is R.draws R.rest R.fine R.is k b R.some R.faulty
 
 -- ---- every list of bytes is read so
 
@@ -405,17 +406,17 @@ module _ (t : List ℕ) (blocks : ℕ) (b : Bytes t) where
       ap (λ (i : ℕ). drop i t) (sym z) ∙ from-splits t 0 many b (λ k h. ap (λ (i : ℕ). draw_at t (i * 12)) (sym (no_more k)) ∙ lead-draw k h)
       ∙ ap (λ (i : ℕ). draws_bytes led ++ drop (i * 12) t) (sym (no_more many))
 
-  exact : (r : BlockRead) → ReadOf t blocks r → ReadOf t blocks (block_read t blocks)
+  exact : (r : Result BlockRead ℕ) → ReadOf t blocks r → ReadOf t blocks (block_read t blocks)
   exact r R = subst (ReadOf t blocks) (listed-read t blocks r b R) R
 
   faulty-is : (t ≡ [] → ⊥) → (k : ℕ) → Faulty blocks (length led) (drop (many * 12) t) k → ReadOf t blocks (block_read t blocks)
   faulty-is some k f =
-      exact (read.Refused k)
+      exact (Err k)
       (record { some = some; draws = led; fine = led-fine; rest = drop (many * 12) t; is = led-splits; faulty = f })
 
   closed_is : blocks < blocks_most → CloseFirst (drop (many * 12) t) → ReadOf t blocks (block_read t blocks)
   closed_is h C =
-      exact (read.Block (length led) (length (block_bytes led)))
+      exact (Ok (read.Block (length led) (length (block_bytes led))))
       (record {
         draws = led;
         fine = led-fine;
@@ -445,7 +446,7 @@ module _ (t : List ℕ) (blocks : ℕ) (b : Bytes t) where
 
   pub read_is : ReadOf t blocks (block_read t blocks)
   read_is =
-      ⊎_elim (λ (e : t ≡ []). exact read.End e)
+      ⊎_elim (λ (e : t ≡ []). exact (Ok read.End) e)
       (λ (some : t ≡ [] → ⊥).
       by-test (close_at t (many * 12)) _
       (λ c.
@@ -467,19 +468,19 @@ module _ (t : List ℕ) (blocks : ℕ) (b : Bytes t) where
 -- ---- the reading, both ways
 
 -- an answer is the reader's exactly where what it says of the records holds
-pub read-listed : (t : List ℕ) (blocks : ℕ) → Bytes t → (r : BlockRead) → ReadOf t blocks r ↔ (r ≡ block_read t blocks)
+pub read-listed : (t : List ℕ) (blocks : ℕ) → Bytes t → (r : Result BlockRead ℕ) → ReadOf t blocks r ↔ (r ≡ block_read t blocks)
 read-listed t blocks b r = (listed-read t blocks r b, λ e. subst (ReadOf t blocks) (sym e) (read_is t blocks b))
 
 -- so it holds of one answer alone
-pub read_only : (t : List ℕ) (blocks : ℕ) → Bytes t → (r q : BlockRead) → ReadOf t blocks r → ReadOf t blocks q → r ≡ q
+pub read_only : (t : List ℕ) (blocks : ℕ) → Bytes t → (r q : Result BlockRead ℕ) → ReadOf t blocks r → ReadOf t blocks q → r ≡ q
 read_only t blocks b r q R Q = one-outcome (block_read t blocks) r q (listed-read t blocks r b R) (listed-read t blocks q b Q)
 
 -- a block that isn't closed before the end is 13, also where 1 to 3 bytes of a record are left
 pub unclosed-refused : (t : List ℕ) (blocks : ℕ) → Bytes t → (ds : List Recorded) (u : List ℕ) → FineDraws blocks ds → t ≡ draws_bytes ds ++ u
-    → length u < 4 → (t ≡ [] → ⊥) → read.Refused 13 ≡ block_read t blocks
+    → length u < 4 → (t ≡ [] → ⊥) → Err 13 ≡ block_read t blocks
 unfolding draw_record close_record bytes_of le_bytes
 unclosed-refused t blocks b ds u F e h some =
-    listed-read t blocks (read.Refused 13) b
+    listed-read t blocks (Err 13) b
     (record {
       some = some;
       draws = ds;
@@ -525,19 +526,19 @@ module _ (t : List ℕ) (blocks n next : ℕ) (B : BlockFirst t blocks n next) w
   }
 
   -- a reader that answers with a block leaves its draws in the columns
-  pub read-holds : (ks fs ss rs ks' fs' ss' rs' : List ℕ) → ReadsAs t blocks ks fs ss rs (read.Block n next) ks' fs' ss' rs'
+  pub read-holds : (ks fs ss rs ks' fs' ss' rs' : List ℕ) → ReadsAs t blocks ks fs ss rs (Ok (read.Block n next)) ks' fs' ss' rs'
       → Holds drawn ks' fs' ss' rs'
   unfolding read_answer
   read-holds ks fs ss rs ks' fs' ss' rs' R =
-      let e : block_read t blocks ≡ read.Block n next = sym (listed-block t blocks n next B) in
-      let said : read.Block n next ≡ cond (columns_room n ks fs ss rs) (read.Block n next) (read.Refused 2) =
-      R.said ∙ ap (λ (r : BlockRead). cond (columns_room (reading.draws_in r) ks fs ss rs) r (read.Refused 2)) e in
+      let e : block_read t blocks ≡ Ok (read.Block n next) = sym (listed-block t blocks n next B) in
+      let said : ◌≡◌ {A = Result BlockRead ℕ} (Ok (read.Block n next)) (cond (columns_room n ks fs ss rs) (Ok (read.Block n next)) (Err 2)) =
+      R.said ∙ ap (λ (r : Result BlockRead ℕ). cond (columns_room (reading.draws_in r) ks fs ss rs) r (Err 2)) e in
       by-test (columns_room n ks fs ss rs) _
       (λ y.
       let x = room_says n ks fs ss rs y in
       same-holds R.draws R.firsts R.seconds R.recorded (columns-hold ks fs ss rs x.0 x.1 x.2 x.3))
       (λ f.
-      let q : read.Block n next ≡ read.Refused 2 = said ∙ ap (λ (v : Bool). cond v (read.Block n next) (read.Refused 2)) f in
+      let q : ◌≡◌ {A = Result BlockRead ℕ} (Ok (read.Block n next)) (Err 2) = said ∙ ap {B = Result BlockRead ℕ} (λ (v : Bool). cond v (Ok (read.Block n next)) (Err 2)) f in
       absurd (let z : ◌≡◌ {A = ℕ} 0 1 = cc in omega arith))
     where
       same-holds : {ds : List Recorded} {a b c d p q r s : List ℕ} → a ≡ p → b ≡ q → c ≡ r → d ≡ s → Holds ds p q r s → Holds ds a b c d

@@ -1,4 +1,5 @@
 -- Laws of the records of a block. Assumes nothing.
+use Rattle.std.specs.Prelude.{Result, Ok, Err}
 use mathlib.Core.Path.{◌≡◌, refl, sym, ap, ◌∙◌}
 use mathlib.Core.Bool.{Bool, true, false, cond, ◌&&◌, ◌||◌}
 use mathlib.Core.List.{List}
@@ -8,11 +9,11 @@ use borrow.Author.Tests.{lt-ltb, le-ltb, eq-eqb, eqb-true}
 use lib.Dec.{leb, ltb, eqb}
 use lib.ListN.{length}
 use Rattle.paper.specs.Limits.{number_of, draws_most}
-use Rattle.paper.specs.Rows.{unless}
+use Rattle.paper.specs.Rows.{answer_as}
+use Rattle.slotset.proofs.Refusals.{answer-is, answer-refused}
 use Rattle.paper.specs.Count.{all}
 use Rattle.paper.proofs.Logic.{by-test, both, and-stops}
 use Rattle.paper.proofs.Count.{all_none, all_more}
-use Rattle.paper.proofs.Rows.{worked, kept}
 use Rattle.records.specs.Fields.{le, field_at}
 use Rattle.records.specs.Records.{record_at}
 use Rattle.records.specs.Heads.{head_at}
@@ -20,6 +21,7 @@ use Rattle.records.specs.declared.Head.TheVariants as head
 use Rattle.records.proofs.Numbers.{field_is}
 use Rattle.records.proofs.Walks.{lead_is, lead-full, record-says, record_is}
 use Rattle.records.proofs.Mixed.{head-says, head-none, whole_says, whole_is}
+use Rattle.replay.specs.declared.BlockRead.{BlockRead}
 use Rattle.replay.specs.declared.BlockRead.TheVariants as read
 use Rattle.replay.specs.Reading.{blocks_most, draw_at, close_at, record_row, fault_at, draw_fine, leading_draws, block_read}
 
@@ -182,28 +184,27 @@ module _ (t : List ℕ) (blocks n : ℕ) (L : Leading t blocks n) where
 
 -- ---- the block
 
-pub block-end : (t : List ℕ) (blocks : ℕ) → length t ≡ 0 → read.End ≡ block_read t blocks
+pub block-end : (t : List ℕ) (blocks : ℕ) → length t ≡ 0 → Ok read.End ≡ block_read t blocks
 unfolding block_read
 block-end t blocks e =
     let n = leading_draws t blocks in
     let f = fault_at t blocks n in
-    sym (ap (λ (b : Bool). cond b read.End (unless f (read.Refused f) (read.Block n (n * 12 + 4)))) (eq-eqb (length t) 0 e))
+    sym (ap {B = Result BlockRead ℕ} (λ (b : Bool). cond b (Ok read.End) (answer_as f (read.Block n (n * 12 + 4)))) (eq-eqb (length t) 0 e))
 
 module _ (t : List ℕ) (blocks n : ℕ) (some : length t ≡ 0 → ⊥) (e : n ≡ leading_draws t blocks) where
-  block-some : block_read t blocks ≡ unless (fault_at t blocks n) (read.Refused (fault_at t blocks n)) (read.Block n (n * 12 + 4))
+  block-some : block_read t blocks ≡ answer_as (fault_at t blocks n) (read.Block n (n * 12 + 4))
   unfolding block_read
   block-some =
       let d = leading_draws t blocks in
       let f = fault_at t blocks d in
-      ap (λ (b : Bool). cond b read.End (unless f (read.Refused f) (read.Block d (d * 12 + 4)))) (borrow.Author.Tests.ne_eqb (length t) 0 some)
-      ∙ ap (λ (k : ℕ). unless (fault_at t blocks k) (read.Refused (fault_at t blocks k)) (read.Block k (k * 12 + 4))) (sym e)
+      ap {B = Result BlockRead ℕ} (λ (b : Bool). cond b (Ok read.End) (answer_as f (read.Block d (d * 12 + 4)))) (borrow.Author.Tests.ne_eqb (length t) 0 some)
+      ∙ ap (λ (k : ℕ). answer_as (fault_at t blocks k) (read.Block k (k * 12 + 4))) (sym e)
 
-  pub block-is : (f : ℕ) → f ≡ fault_at t blocks n → f ≡ 0 → read.Block n (n * 12 + 4) ≡ block_read t blocks
-  block-is f g z = sym (block-some ∙ worked (fault_at t blocks n) _ _ (sym g ∙ z))
+  pub block-is : (f : ℕ) → f ≡ fault_at t blocks n → f ≡ 0 → Ok (read.Block n (n * 12 + 4)) ≡ block_read t blocks
+  block-is f g z = answer-is f (fault_at t blocks n) g z (read.Block n (n * 12 + 4)) _ refl ∙ sym block-some
 
-  pub block-faulty : (f : ℕ) → f ≡ fault_at t blocks n → (f ≡ 0 → ⊥) → read.Refused f ≡ block_read t blocks
-  block-faulty f g z =
-      ap read.Refused g ∙ sym (block-some ∙ kept (fault_at t blocks n) _ _ (λ q. z (g ∙ q)))
+  pub block-faulty : (f : ℕ) → f ≡ fault_at t blocks n → (f ≡ 0 → ⊥) → Err f ≡ block_read t blocks
+  block-faulty f g z = answer-refused f (fault_at t blocks n) g z (read.Block n (n * 12 + 4)) ∙ sym block-some
 
 -- what stands against a record, case by case, as a set of lemmas
 pub ruleset fault_cases = (fault-closes, fault-close-many, fault-draw, fault-draw-many, fault-block-many, fault-other)

@@ -1,4 +1,5 @@
 -- The text of a recording's blocks is the one that the rule gives, and only that. Assumes nothing.
+use Rattle.std.specs.Prelude.{Result, Ok, Err}
 use mathlib.Core.Path.{◌≡◌, refl, sym, ap, ap₂, ◌∙◌, subst}
 use mathlib.Core.Logic.{⊎_elim}
 use mathlib.Core.Bool.{Bool, true, false, cond}
@@ -28,7 +29,7 @@ use Rattle.replay.proofs.Records.{block-end, block-is, block-faulty}
 use Rattle.replay.proofs.Streams.{is_read, place_in, after_in, text-by, body-agrees, body-differs}
 
 -- the end is told only where nothing is left
-end-only : (t : List ℕ) (blocks : ℕ) → block_read t blocks ≡ read.End → t ≡ []
+end-only : (t : List ℕ) (blocks : ℕ) → block_read t blocks ≡ Ok read.End → t ≡ []
 end-only [] blocks e = refl
 end-only (b ∷ t) blocks e =
     let n = leading_draws (b ∷ t) blocks in
@@ -36,10 +37,10 @@ end-only (b ∷ t) blocks e =
     let some : length (b ∷ t) ≡ 0 → ⊥ = λ q. omega arith in
     by-test (eqb f 0) _
     (λ z.
-    let k : read.Block n (n * 12 + 4) ≡ read.End = block-is (b ∷ t) blocks n some refl f refl (eqb-true f 0 z) ∙ e in
+    let k : ◌≡◌ {A = Result BlockRead ℕ} (Ok (read.Block n (n * 12 + 4))) (Ok read.End) = block-is (b ∷ t) blocks n some refl f refl (eqb-true f 0 z) ∙ e in
     absurd (let w : ◌≡◌ {A = ℕ} 0 1 = cc in omega arith))
     (λ z.
-    let k : read.Refused f ≡ read.End =
+    let k : ◌≡◌ {A = Result BlockRead ℕ} (Err f) (Ok read.End) =
     block-faulty (b ∷ t) blocks n some refl f refl (λ g. mathlib.Core.Bool.true≢false (sym (eq-eqb f 0 g) ∙ z)) ∙ e in
     absurd (let w : ◌≡◌ {A = ℕ} 0 1 = cc in omega arith))
 
@@ -80,8 +81,8 @@ module _ (R : Ready) (o : List ℕ) (so : List Draw) (t : List ℕ) (n : ℕ) wh
 pub shows-text : {R : Ready} {o : List ℕ} {block : ℕ} {so : List Draw} {t y : List ℕ} → Shows R o block so t y
     → (left : ℕ) → block + left ≡ blocks_most → y ≡ blocks_text left R (owners_after (board_in R) o so) t
 shows-text {R} {o} (ends block so t e) left m =
-    sym (text-by left block R (owners_after (board_in R) o so) t read.End m (sym (block-end t block (ap length e))))
-shows-text {R} {o} (refuses block so t k g) left m = sym (text-by left block R (owners_after (board_in R) o so) t (read.Refused k) m g)
+    sym (text-by left block R (owners_after (board_in R) o so) t (Ok read.End) m (sym (block-end t block (ap length e))))
+shows-text {R} {o} (refuses block so t k g) left m = sym (text-by left block R (owners_after (board_in R) o so) t (Err k) m g)
 shows-text {R} {o} (differs block so t n next p g h before here) left m =
     let o' = owners_after (board_in R) o so in
     let I = is_read t block n next g in
@@ -91,7 +92,7 @@ shows-text {R} {o} (differs block so t n next p g h before here) left m =
     place_is R o so t n p (record { within = omega arith; before = before; fails = λ l. here }) in
     ap₂ (λ (w : List ℕ) (k : ℕ). shown_text block R w ++ last_line (ending.Differs block k)) (after_is R o so t n p at) at
     ∙ sym (ap (λ (k : ℕ). blocks_text k R o' t) less
-    ∙ text-by (suc fewer) block R o' t (read.Block n next) (omega arith) g ∙ body-differs fewer R o' t block n next (omega arith))
+    ∙ text-by (suc fewer) block R o' t (Ok (read.Block n next)) (omega arith) g ∙ body-differs fewer R o' t block n next (omega arith))
 shows-text {R} {o} (agrees block so t n next y g every S) left m =
     let o' = owners_after (board_in R) o so in
     let I = is_read t block n next g in
@@ -103,7 +104,7 @@ shows-text {R} {o} (agrees block so t n next y g every S) left m =
     let same = all_after R o so t n at in
     ap₂ (λ (w v : List ℕ). shown_text block R w ++ v) same (rest ∙ ap (λ (w : List ℕ). blocks_text fewer R w (drop next t)) same)
     ∙ sym (ap (λ (k : ℕ). blocks_text k R o' t) less
-    ∙ text-by (suc fewer) block R o' t (read.Block n next) (omega arith) g ∙ body-agrees fewer R o' t block n next (omega arith))
+    ∙ text-by (suc fewer) block R o' t (Ok (read.Block n next)) (omega arith) g ∙ body-agrees fewer R o' t block n next (omega arith))
 
 -- and the rule gives a text, whatever stands in the bytes
 module _ (R : Ready) (o : List ℕ) where
@@ -114,18 +115,18 @@ module _ (R : Ready) (o : List ℕ) where
 
   -- by what stands at the front, and what follows a block
   shows-by : (left : ℕ) → ((fewer : ℕ) → left ≡ suc fewer → Given fewer) → (block : ℕ) (so : List Draw) (t : List ℕ) → block + left ≡ blocks_most
-      → (q : BlockRead) → block_read t block ≡ q → Shows R o block so t (blocks_text left R (owners_after (board_in R) o so) t)
-  shows-by left rest block so t m read.End g =
-      subst (λ (y : List ℕ). Shows R o block so t y) (sym (text-by left block R (owners_after (board_in R) o so) t read.End m g))
+      → (q : Result BlockRead ℕ) → block_read t block ≡ q → Shows R o block so t (blocks_text left R (owners_after (board_in R) o so) t)
+  shows-by left rest block so t m (Ok read.End) g =
+      subst (λ (y : List ℕ). Shows R o block so t y) (sym (text-by left block R (owners_after (board_in R) o so) t (Ok read.End) m g))
       (ends block so t (end-only t block g))
-  shows-by left rest block so t m (read.Refused k) g =
-      subst (λ (y : List ℕ). Shows R o block so t y) (sym (text-by left block R (owners_after (board_in R) o so) t (read.Refused k) m g))
+  shows-by left rest block so t m (Err k) g =
+      subst (λ (y : List ℕ). Shows R o block so t y) (sym (text-by left block R (owners_after (board_in R) o so) t (Err k) m g))
       (refuses block so t k g)
-  shows-by zero rest block so t m (read.Block n next) g = absurd (omega (arith, (is_read t block n next g).may))
-  shows-by (suc left) rest block so t m (read.Block n next) g =
+  shows-by zero rest block so t m (Ok (read.Block n next)) g = absurd (omega (arith, (is_read t block n next g).may))
+  shows-by (suc left) rest block so t m (Ok (read.Block n next)) g =
       let o' = owners_after (board_in R) o so in
       let F : FirstFault n (agrees_at (board_in R) o' (draws_in t n) (recorded_in t n)) (place_in R o' t n) = first-in R o so t n in
-      let whole = text-by (suc left) block R o' t (read.Block n next) m g in
+      let whole = text-by (suc left) block R o' t (Ok (read.Block n next)) m g in
       ⊎_elim
       (λ (h : place_in R o' t n < n).
       subst (λ (y : List ℕ). Shows R o block so t y)

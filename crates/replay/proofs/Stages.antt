@@ -1,4 +1,5 @@
 -- What the stage of a block comes to, by what its parts returned. Assumes nothing.
+use Rattle.std.specs.Prelude.{Result, Ok, Err}
 use mathlib.Core.Path.{◌≡◌, refl, sym, ap, ap₂, ◌∙◌, subst}
 use mathlib.Core.Bool.{Bool, true, false, cond}
 use mathlib.Core.List.{List, ◌∷◌, []}
@@ -26,10 +27,8 @@ use Rattle.rota.proofs.Plays.{play-length}
 use Rattle.records.specs.Puts.{put, Wrote}
 use Rattle.job.specs.declared.Ending.{Ending}
 use Rattle.job.specs.declared.Ending.TheVariants as ending
-use Rattle.job.specs.declared.JobAnswer.{JobAnswer}
-use Rattle.job.specs.declared.JobAnswer.TheVariants as answer
 use Rattle.job.specs.Listing.{listing_most}
-use Rattle.job.specs.Outcome.{Result, listed_as, Ends}
+use Rattle.job.specs.Outcome.{Outcome, listed_as, Ends}
 use Rattle.job.specs.Stages.{Ready, plan_of}
 use Rattle.job.specs.Shown.{block_text, block_row, block_result}
 use Rattle.replay.specs.declared.BlockRead.{BlockRead}
@@ -43,7 +42,7 @@ use Rattle.replay.proofs.Streams.{is_read}
 -- ---- the text of a block
 
 module _ (block people slots : ℕ) (starts ends owners minutes : List ℕ) (targets : List ℤ) (x : List ℕ)
-    (z : (refusal_of (block_row people slots starts ends owners minutes targets (length x))).number ≡ 0) (a : JobAnswer) (out : List ℕ)
+    (z : (refusal_of (block_row people slots starts ends owners minutes targets (length x))).number ≡ 0) (a : Result ℕ Refusal) (out : List ℕ)
     (E : Ends (block_result block people slots starts ends owners minutes targets x) a out) where
   abbrev text : List ℕ
   text = block_text block people slots starts ends owners minutes targets
@@ -52,20 +51,20 @@ module _ (block people slots : ℕ) (starts ends owners minutes : List ℕ) (tar
   unfolding block_result
   text-is = worked _ _ (listed_as text x) z
 
-  said-is : a ≡ answer.Length (length text)
+  said-is : a ≡ Ok (length text)
   unfolding listed_as
-  said-is = E.said ∙ ap (λ (y : Result). y.answer) text-is
+  said-is = E.said ∙ ap (λ (y : Outcome). y.answer) text-is
 
-  pub show-wrote : (n : ℕ) → a ≡ answer.Length n → Wrote text 0 x n out
+  pub show-wrote : (n : ℕ) → a ≡ Ok n → Wrote text 0 x n out
   unfolding listed_as
   show-wrote n e =
-      let k : answer.Length n ≡ answer.Length (length text) = sym e ∙ said-is in
+      let k : Ok n ≡ Ok (length text) = sym e ∙ said-is in
       let m : n ≡ length text = cc in
-      record { ends = omega arith; text = E.left ∙ ap (λ (y : Result). y.out) text-is }
+      record { ends = omega arith; text = E.left ∙ ap (λ (y : Outcome). y.out) text-is }
 
-  pub show-not : (f : Refusal) → a ≡ answer.Refused f → ⊥
+  pub show-not : (f : Refusal) → a ≡ Err f → ⊥
   show-not f e =
-      let k : answer.Refused f ≡ answer.Length (length text) = sym e ∙ said-is in
+      let k : Err f ≡ Ok (length text) = sym e ∙ said-is in
       let w : ◌≡◌ {A = ℕ} 0 1 = cc in
       omega arith
 
@@ -97,23 +96,22 @@ module _ (P : Plan) (avail : List ℕ) (units : ℕ) (begins frozen : List ℕ) 
           (λ g. ap m (kept k old new (λ q. mathlib.Core.Bool.true≢false (sym (eq-eqb k 0 q) ∙ g))))
 
   -- a refused block leaves the rota
-  replay-refused : (g : Refusal) → y.answer ≡ replayed.Refused g → (y.owners ≡ o) × (y.derived ≡ D)
+  replay-refused : (g : Refusal) → y.answer ≡ Err g → (y.owners ≡ o) × (y.derived ≡ D)
   unfolding rota.replayed_list rota.agrees_up_to
   replay-refused g e =
       let place = rota.agreeing (board_of P.people P.slots units avail begins frozen) o (draws_of ks fs ss n) rs in
-      let played : Replayed = cond (ltb place n) (replayed.Differs place) replayed.Agrees in
+      let played : Result Replayed Refusal = Ok (cond (ltb place n) (replayed.Differs place) replayed.Agrees) in
       by-test (eqb f.number 0) _
       (λ t.
-      let k : played ≡ replayed.Refused g =
-      sym (worked f.number (replayed.Refused f) played (borrow.Author.Tests.eqb-true f.number 0 t)) ∙ e in
-      absurd (not-refused (ltb place n) place g k))
+      let k : played ≡ Err g =
+      sym (worked f.number (Err f) played (borrow.Author.Tests.eqb-true f.number 0 t)) ∙ e in
+      absurd (not-refused (cond (ltb place n) (replayed.Differs place) replayed.Agrees) g k))
       (λ t.
       let no : f.number ≡ 0 → ⊥ = λ q. mathlib.Core.Bool.true≢false (sym (eq-eqb f.number 0 q) ∙ t) in
       (kept f.number o after no, kept f.number D (afresh P after D) no))
     where
-      not-refused : (b : Bool) (p : ℕ) (g : Refusal) → cond b (replayed.Differs p) replayed.Agrees ≡ replayed.Refused g → ⊥
-      not-refused true p g k = let w : ◌≡◌ {A = ℕ} 0 1 = cc in omega arith
-      not-refused false p g k = let w : ◌≡◌ {A = ℕ} 0 1 = cc in omega arith
+      not-refused : (v : Replayed) (g : Refusal) → ◌≡◌ {A = Result Replayed Refusal} (Ok v) (Err g) → ⊥
+      not-refused v g k = let w : ◌≡◌ {A = ℕ} 0 1 = cc in omega arith
 
 -- ---- the stage of a block that was read
 
@@ -138,7 +136,7 @@ module _ (block next n : ℕ) (ks fs ss rs : List ℕ) (R : Ready) (o : List ℕ
         out = sym (ap (λ (Z : Staged). Z.out) s);
       }
 
-  module _ (z : short.number ≡ 0) (r : Replayed) (o' : List ℕ) (D' : Derived) (H : rota.Replays came r o' D') where
+  module _ (z : short.number ≡ 0) (r : Result Replayed Refusal) (o' : List ℕ) (D' : Derived) (H : rota.Replays came r o' D') where
     -- the text has room after the draws too
     pub stage-room : (refusal_of (block_row R.people R.slots R.starts R.ends o' D'.minutes R.targets (length x))).number ≡ 0
     unfolding block_row
@@ -156,8 +154,8 @@ module _ (block next n : ℕ) (ks fs ss rs : List ℕ) (R : Ready) (o : List ℕ
     unfolding block_stage
     by_answer = worked _ _ (played_by came.answer block next R came o D x) (sym (ap (λ (g : Refusal). g.number) e) ∙ z)
 
-    by_said : (q : Replayed) → r ≡ q → stage ≡ played_by q block next R came o D x
-    by_said q g = by_answer ∙ ap (λ (v : Replayed). played_by v block next R came o D x) (sym H.answer ∙ g)
+    by_said : (q : Result Replayed Refusal) → r ≡ q → stage ≡ played_by q block next R came o D x
+    by_said q g = by_answer ∙ ap (λ (v : Result Replayed Refusal). played_by v block next R came o D x) (sym H.answer ∙ g)
 
     shown-stage : (f : ℕ → Played) → stage ≡ shown_as f block R came.owners came.derived x → (l : ℕ) (x' : List ℕ)
         → Wrote (shown_by block R o' D') 0 x l x' → StagedAs stage (f l) o' D' x'
@@ -173,18 +171,18 @@ module _ (block next n : ℕ) (ks fs ss rs : List ℕ) (R : Ready) (o : List ℕ
           out = W.text ∙ ap (λ (u : List ℕ). put u 0 x) t ∙ sym (ap (λ (Z : Staged). Z.out) s);
         }
 
-    pub stage-agreed : r ≡ replayed.Agrees → (l : ℕ) (x' : List ℕ) → Wrote (shown_by block R o' D') 0 x l x'
+    pub stage-agreed : r ≡ Ok replayed.Agrees → (l : ℕ) (x' : List ℕ) → Wrote (shown_by block R o' D') 0 x l x'
         → StagedAs stage (played.More l next) o' D' x'
-    stage-agreed g l x' W = shown-stage (λ m. played.More m next) (by_said replayed.Agrees g) l x' W
+    stage-agreed g l x' W = shown-stage (λ m. played.More m next) (by_said (Ok replayed.Agrees) g) l x' W
 
-    pub stage-differed : (p : ℕ) → r ≡ replayed.Differs p → (l : ℕ) (x' : List ℕ) → Wrote (shown_by block R o' D') 0 x l x'
+    pub stage-differed : (p : ℕ) → r ≡ Ok (replayed.Differs p) → (l : ℕ) (x' : List ℕ) → Wrote (shown_by block R o' D') 0 x l x'
         → StagedAs stage (played.Last l (ending.Differs block p)) o' D' x'
-    stage-differed p g l x' W = shown-stage (λ m. played.Last m (ending.Differs block p)) (by_said (replayed.Differs p) g) l x' W
+    stage-differed p g l x' W = shown-stage (λ m. played.Last m (ending.Differs block p)) (by_said (Ok (replayed.Differs p)) g) l x' W
 
-    pub stage-refused : (g : Refusal) → r ≡ replayed.Refused g → StagedAs stage (played.Last 0 (ending.Refused g)) o' D' x
+    pub stage-refused : (g : Refusal) → r ≡ Err g → StagedAs stage (played.Last 0 (ending.Refused g)) o' D' x
     unfolding ends_with
     stage-refused g q =
-        let s : stage ≡ ends_with (ending.Refused g) o D x = by_said (replayed.Refused g) q in
+        let s : stage ≡ ends_with (ending.Refused g) o D x = by_said (Err g) q in
         let k = replay-refused (plan_of R) R.avail R.units R.begins R.frozen n ks fs ss rs o D g (sym H.answer ∙ q) in
         record {
           answer = sym (ap (λ (Z : Staged). Z.answer) s);
@@ -196,10 +194,10 @@ module _ (block next n : ℕ) (ks fs ss rs : List ℕ) (R : Ready) (o : List ℕ
 -- ---- by what was read
 
 -- columns of 1,024 have room for every block
-few-draws : (q : BlockRead) → ((n next : ℕ) → q ≡ read.Block n next → n ≤ 1024) → draws_in q ≤ 1024
-few-draws (read.Block n next) f = f n next refl
-few-draws read.End f = omega arith
-few-draws (read.Refused k) f = omega arith
+few-draws : (q : Result BlockRead ℕ) → ((n next : ℕ) → q ≡ Ok (read.Block n next) → n ≤ 1024) → draws_in q ≤ 1024
+few-draws (Ok (read.Block n next)) f = f n next refl
+few-draws (Ok read.End) f = omega arith
+few-draws (Err k) f = omega arith
 
 read_whole : (t : List ℕ) (block : ℕ) → let z : List ℕ = replicate 1024 0 in read_answer t block z z z z ≡ block_read t block
 unfolding read_answer columns_room
@@ -210,16 +208,16 @@ read_whole t block =
     le-leb (draws_in q) (length (replicate {A = ℕ} 1024 0)) (omega (arith, few, length-replicate {A = ℕ} 1024 0)) in
     simp room
 
-module _ (t : List ℕ) (block : ℕ) (R : Ready) (o : List ℕ) (D : Derived) (x : List ℕ) (b : BlockRead) (ks fs ss rs : List ℕ)
+module _ (t : List ℕ) (block : ℕ) (R : Ready) (o : List ℕ) (D : Derived) (x : List ℕ) (b : Result BlockRead ℕ) (ks fs ss rs : List ℕ)
     (A : ReadsAs t block (replicate 1024 0) (replicate 1024 0) (replicate 1024 0) (replicate 1024 0) b ks fs ss rs) where
   abbrev whole : Staged
   whole = stage_of t block R o D x
 
-  by_read : (q : BlockRead) → b ≡ q → whole ≡ stage_by q t block R o D x
+  by_read : (q : Result BlockRead ℕ) → b ≡ q → whole ≡ stage_by q t block R o D x
   unfolding stage_of
-  by_read q e = ap (λ (v : BlockRead). stage_by v t block R o D x) (sym (A.said ∙ read_whole t block) ∙ e)
+  by_read q e = ap (λ (v : Result BlockRead ℕ). stage_by v t block R o D x) (sym (A.said ∙ read_whole t block) ∙ e)
 
-  pub staged-block : (n next : ℕ) → b ≡ read.Block n next → (r : Played) (o' : List ℕ) (D' : Derived) (x' : List ℕ)
+  pub staged-block : (n next : ℕ) → b ≡ Ok (read.Block n next) → (r : Played) (o' : List ℕ) (D' : Derived) (x' : List ℕ)
       → StagedAs (block_stage block next n ks fs ss rs R o D x) r o' D' x' → StagedAs whole r o' D' x'
   staged-block n next e r o' D' x' H =
       let z : List ℕ = replicate 1024 0 in
@@ -231,7 +229,7 @@ module _ (t : List ℕ) (block : ℕ) (R : Ready) (o : List ℕ) (D : Derived) (
       let same : block_stage block next n ks fs ss rs R o D x ≡ whole =
       ap₂ (λ (u v : List ℕ). block_stage block next n u v ss rs R o D x) k f
       ∙ ap₂ (λ (u v : List ℕ). block_stage block next n (fields_of t 4 n z) (fields_of t 6 n z) u v R o D x) s a
-      ∙ sym (by_read (read.Block n next) e) in
+      ∙ sym (by_read (Ok (read.Block n next)) e) in
       subst (λ (Z : Staged). StagedAs Z r o' D' x') same H
 
   ended : (f : Ending) → whole ≡ ends_with f o D x → StagedAs whole (played.Last 0 f) o D x
@@ -243,8 +241,8 @@ module _ (t : List ℕ) (block : ℕ) (R : Ready) (o : List ℕ) (D : Derived) (
     out = sym (ap (λ (Z : Staged). Z.out) s);
   }
 
-  pub staged-end : b ≡ read.End → StagedAs whole (played.Last 0 ending.Agrees) o D x
-  staged-end e = ended ending.Agrees (by_read read.End e)
+  pub staged-end : b ≡ Ok read.End → StagedAs whole (played.Last 0 ending.Agrees) o D x
+  staged-end e = ended ending.Agrees (by_read (Ok read.End) e)
 
-  pub staged-faulty : (n : ℕ) → b ≡ read.Refused n → StagedAs whole (played.Last 0 (ending.Refused (placeless n))) o D x
-  staged-faulty n e = ended (ending.Refused (placeless n)) (by_read (read.Refused n) e)
+  pub staged-faulty : (n : ℕ) → b ≡ Err n → StagedAs whole (played.Last 0 (ending.Refused (placeless n))) o D x
+  staged-faulty n e = ended (ending.Refused (placeless n)) (by_read (Err n) e)

@@ -1,4 +1,6 @@
 -- However a recording is streamed, its stages one after the other write its text and nothing else. Assumes nothing.
+use Rattle.std.specs.Prelude.{Result, Ok, Err}
+use Rattle.paper.specs.declared.Refusal.{Refusal}
 use mathlib.Core.Path.{◌≡◌, refl, sym, ap, ap₂, ◌∙◌, subst}
 use mathlib.Core.Logic.{⊎_elim}
 use mathlib.Core.Bool.{Bool, true, false, cond, ◌&&◌, ◌||◌}
@@ -11,7 +13,7 @@ use lib.IntN.{pos}
 use lib.ListN.{length, get_or, take, drop, replicate, length-replicate}
 use lib.Seq.{take_at}
 use Rattle.paper.specs.Limits.{number_of, draws_most}
-use Rattle.paper.specs.Rows.{unless, refusal_of}
+use Rattle.paper.specs.Rows.{answer_as, refusal_of}
 use Rattle.paper.specs.Count.{all, over}
 use Rattle.paper.proofs.Logic.{by-test, both, lt-or-ge}
 use Rattle.paper.proofs.Rows.{worked, kept, said, all_pass}
@@ -66,24 +68,24 @@ zero-may false true true j e = refl
 zero-may false true false j e = absurd (omega arith)
 zero-may false false b j e = absurd (omega arith)
 
-pub is_read : (t : List ℕ) (blocks n next : ℕ) → block_read t blocks ≡ read.Block n next → IsRead t blocks n next
-unfolding block_read leading_draws
+pub is_read : (t : List ℕ) (blocks n next : ℕ) → block_read t blocks ≡ Ok (read.Block n next) → IsRead t blocks n next
+unfolding block_read leading_draws answer_as
 is_read t blocks n next e =
     let m : ℕ = lead (draw_fine t blocks) draws_most in
     let f : ℕ = fault_at t blocks m in
     let found : BlockRead = read.Block m (m * 12 + 4) in
     by-test (eqb (length t) 0) _
     (λ z.
-    let q : read.End ≡ read.Block n next =
-    sym (ap (λ (b : Bool). cond b read.End (unless f (read.Refused f) found)) z) ∙ e in
+    let q : ◌≡◌ {A = Result BlockRead ℕ} (Ok read.End) (Ok (read.Block n next)) =
+    sym (ap {B = Result BlockRead ℕ} (λ (b : Bool). cond b (Ok read.End) (answer_as f found)) z) ∙ e in
     absurd (let w : ◌≡◌ {A = ℕ} 0 1 = cc in omega arith))
     (λ z.
-    let q : unless f (read.Refused f) found ≡ read.Block n next =
-    sym (ap (λ (b : Bool). cond b read.End (unless f (read.Refused f) found)) z) ∙ e in
+    let q : answer_as f found ≡ Ok (read.Block n next) =
+    sym (ap {B = Result BlockRead ℕ} (λ (b : Bool). cond b (Ok read.End) (answer_as f found)) z) ∙ e in
     by-test (eqb f 0) _
     (λ y.
     let g : f ≡ 0 = eqb-true f 0 y in
-    let k : found ≡ read.Block n next = sym (worked f (read.Refused f) found g) ∙ q in
+    let k : ◌≡◌ {A = Result BlockRead ℕ} (Ok found) (Ok (read.Block n next)) = sym (worked f (Err f) (Ok found) g) ∙ q in
     let same : m ≡ n = cc in
     record {
       few = omega (arith, same, lead-most (draw_fine t blocks) draws_most);
@@ -91,8 +93,8 @@ is_read t blocks n next e =
       fine = ap (λ (i : ℕ). all i (draw_fine t blocks)) (sym same) ∙ lead-all (draw_fine t blocks) draws_most;
     })
     (λ y.
-    let k : read.Refused f ≡ read.Block n next =
-    sym (kept f (read.Refused f) found (λ g. absurd (mathlib.Core.Bool.true≢false (sym (eq-eqb f 0 g) ∙ y)))) ∙ q in
+    let k : ◌≡◌ {A = Result BlockRead ℕ} (Err f) (Ok (read.Block n next)) =
+    sym (kept f (Err f) (Ok found) (λ g. absurd (mathlib.Core.Bool.true≢false (sym (eq-eqb f 0 g) ∙ y)))) ∙ q in
     absurd (let w : ◌≡◌ {A = ℕ} 0 1 = cc in omega arith)))
 
 answer-small : (t : List ℕ) (blocks j : ℕ) → draw_fine t blocks j ≡ true → leb (le 2 t (j * 12 + 10)) 2 ≡ true
@@ -118,17 +120,17 @@ fields-front p r off n x h few o =
     over-same (λ j. le 2 p (j * 12 + off)) (λ j. le 2 (p ++ r) (j * 12 + off)) n x
     (λ k l. sym (le-front 2 p r (k * 12 + off) (omega arith)))
 
-window-by : (q : BlockRead) (p r : List ℕ) (block : ℕ) (R : Ready) (o : List ℕ) (D : Derived) (x : List ℕ) → 12300 ≤ length p
-    → ((n next : ℕ) → q ≡ read.Block n next → n ≤ 1024) → stage_by q p block R o D x ≡ stage_by q (p ++ r) block R o D x
-window-by (read.Block n next) p r block R o D x h f =
+window-by : (q : Result BlockRead ℕ) (p r : List ℕ) (block : ℕ) (R : Ready) (o : List ℕ) (D : Derived) (x : List ℕ) → 12300 ≤ length p
+    → ((n next : ℕ) → q ≡ Ok (read.Block n next) → n ≤ 1024) → stage_by q p block R o D x ≡ stage_by q (p ++ r) block R o D x
+window-by (Ok (read.Block n next)) p r block R o D x h f =
     let few : n ≤ 1024 = f n next refl in
     let z : List ℕ = replicate 1024 0 in
     ap₂ (λ (k a : List ℕ). block_stage block next n k a (fields_of p 8 n z) (fields_of p 10 n z) R o D x)
     (fields-front p r 4 n z h few (omega arith)) (fields-front p r 6 n z h few (omega arith))
     ∙ ap₂ (λ (s a : List ℕ). block_stage block next n (fields_of (p ++ r) 4 n z) (fields_of (p ++ r) 6 n z) s a R o D x)
     (fields-front p r 8 n z h few (omega arith)) (fields-front p r 10 n z h few (omega arith))
-window-by read.End p r block R o D x h f = refl
-window-by (read.Refused k) p r block R o D x h f = refl
+window-by (Ok read.End) p r block R o D x h f = refl
+window-by (Err k) p r block R o D x h f = refl
 
 pub window-stage : (p r : List ℕ) (block : ℕ) (R : Ready) (o : List ℕ) (D : Derived) (x : List ℕ) → Window 12300 p r
     → stage_of p block R o D x ≡ stage_of (p ++ r) block R o D x
@@ -140,7 +142,7 @@ window-stage p r block R o D x w =
     ap (λ (t : List ℕ). stage_by (block_read t block) t block R o D x) s)
     (λ (h : 12300 ≤ length p).
     window-by (block_read p block) p r block R o D x h (λ n next e. (is_read p block n next e).few)
-    ∙ ap (λ (q : BlockRead). stage_by q (p ++ r) block R o D x) (sym (window-block p r block h)))
+    ∙ ap (λ (q : Result BlockRead ℕ). stage_by q (p ++ r) block R o D x) (sym (window-block p r block h)))
     w
 
 -- ---- what a stage comes to
@@ -210,9 +212,9 @@ module _ (R : Ready) (o : List ℕ) (D : Derived) (F : Fit R o D) (T : R.people 
         ∙ fit_row R o D F n (column_in t 4 n) (column_in t 6 n) (column_in t 8 n) (column_in t 10 n) few (column-room 4) (column-room 6)
         (column-room 8) (column-room 10)
 
-    said-is : (replay_in R o D t n).answer ≡ agrees_up_to n (place_in R o t n)
+    said-is : (replay_in R o D t n).answer ≡ Ok (agrees_up_to n (place_in R o t n))
     unfolding rota.replayed_list
-    said-is = worked _ _ (agrees_up_to n (place_in R o t n)) accepted
+    said-is = worked _ _ (Ok (agrees_up_to n (place_in R o t n))) accepted
 
     pub owners-are : (replay_in R o D t n).owners ≡ after_in R o t n
     unfolding rota.replayed_list
@@ -247,8 +249,8 @@ module _ (R : Ready) (o : List ℕ) (D : Derived) (F : Fit R o D) (T : R.people 
     unfolding agrees_up_to
     stage-agrees h =
         stage_is
-        ∙ ap (λ (a : Replayed). played_by a block next R (replay_in R o D t n) o D x)
-        (said-is ∙ ap (λ (b : Bool). cond b (replayed.Differs (place_in R o t n)) replayed.Agrees) (le-ltb _ _ h))
+        ∙ ap (λ (a : Result Replayed Refusal). played_by a block next R (replay_in R o D t n) o D x)
+        (said-is ∙ ap (λ (b : Bool). Ok (cond b (replayed.Differs (place_in R o t n)) replayed.Agrees)) (le-ltb _ _ h))
 
     pub stage-differs : place_in R o t n < n
         → block_stage block next n (column_in t 4 n) (column_in t 6 n) (column_in t 8 n) (column_in t 10 n) R o D x
@@ -256,8 +258,8 @@ module _ (R : Ready) (o : List ℕ) (D : Derived) (F : Fit R o D) (T : R.people 
     unfolding agrees_up_to
     stage-differs h =
         stage_is
-        ∙ ap (λ (a : Replayed). played_by a block next R (replay_in R o D t n) o D x)
-        (said-is ∙ ap (λ (b : Bool). cond b (replayed.Differs (place_in R o t n)) replayed.Agrees) (lt-ltb _ _ h))
+        ∙ ap (λ (a : Result Replayed Refusal). played_by a block next R (replay_in R o D t n) o D x)
+        (said-is ∙ ap (λ (b : Bool). Ok (cond b (replayed.Differs (place_in R o t n)) replayed.Agrees)) (lt-ltb _ _ h))
 
 -- the place is among the draws, or there is none
 place-most : (R : Ready) (o t : List ℕ) (n : ℕ) → place_in R o t n ≤ n
@@ -287,10 +289,10 @@ text-is (suc left) block R o t e =
     shown_text k R (after_in R o t n)
     ++ cond (eqb (place_in R o t n) n) (blocks_text left R (after_in R o t n) (drop next t)) (last_line (ending.Differs k (place_in R o t n))))) q
 
-pub text-by : (left block : ℕ) (R : Ready) (o t : List ℕ) (q : BlockRead) → block + left ≡ blocks_most → block_read t block ≡ q
+pub text-by : (left block : ℕ) (R : Ready) (o t : List ℕ) (q : Result BlockRead ℕ) → block + left ≡ blocks_most → block_read t block ≡ q
     → blocks_text left R o t ≡ text_by q (body left R o t block)
 text-by left block R o t q e g =
-    text-is left block R o t e ∙ ap (λ (a : BlockRead). text_by a (body left R o t block)) g
+    text-is left block R o t e ∙ ap (λ (a : Result BlockRead ℕ). text_by a (body left R o t block)) g
 
 pub body-agrees : (left : ℕ) (R : Ready) (o t : List ℕ) (block n next : ℕ) → n ≤ place_in R o t n
     → body (suc left) R o t block n next ≡ shown_text block R (after_in R o t n) ++ blocks_text left R (after_in R o t n) (drop next t)
@@ -308,10 +310,10 @@ body-differs left R o t block n next h =
     ap (λ (b : Bool). shown_text block R (after_in R o t n)
     ++ cond b (blocks_text left R (after_in R o t n) (drop next t)) (last_line (ending.Differs block (place_in R o t n)))) (ne_eqb _ _ e)
 
-stage-by : (q : BlockRead) (t : List ℕ) (block : ℕ) (R : Ready) (o : List ℕ) (D : Derived) (x : List ℕ) → block_read t block ≡ q
+stage-by : (q : Result BlockRead ℕ) (t : List ℕ) (block : ℕ) (R : Ready) (o : List ℕ) (D : Derived) (x : List ℕ) → block_read t block ≡ q
     → stage_of t block R o D x ≡ stage_by q t block R o D x
 unfolding stage_of
-stage-by q t block R o D x g = ap (λ (a : BlockRead). stage_by a t block R o D x) g
+stage-by q t block R o D x g = ap (λ (a : Result BlockRead ℕ). stage_by a t block R o D x) g
 
 -- ---- what an outcome writes
 
@@ -376,16 +378,16 @@ module _ (R : Ready) (o : List ℕ) (D : Derived) (F : Fit R o D) (T : R.people 
   abbrev S : Staged
   S = stage_of t block R o D x
 
-  pub last-text : (q : BlockRead) → block_read t block ≡ q → (l : ℕ) (f : Ending) → S.answer ≡ played.Last l f
+  pub last-text : (q : Result BlockRead ℕ) → block_read t block ≡ q → (l : ℕ) (f : Ending) → S.answer ≡ played.Last l f
       → take l S.out ++ last_line f ≡ blocks_text left R o t
-  last-text read.End g l f a =
-      ends-text ending.Agrees f o D x l S (stage-by read.End t block R o D x g) a ∙ sym (text-by left block R o t read.End e g)
-  last-text (read.Refused k) g l f a =
-      ends-text (ending.Refused (placeless k)) f o D x l S (stage-by (read.Refused k) t block R o D x g) a
-      ∙ sym (text-by left block R o t (read.Refused k) e g)
-  last-text (read.Block n next) g l f a =
+  last-text (Ok read.End) g l f a =
+      ends-text ending.Agrees f o D x l S (stage-by (Ok read.End) t block R o D x g) a ∙ sym (text-by left block R o t (Ok read.End) e g)
+  last-text (Err k) g l f a =
+      ends-text (ending.Refused (placeless k)) f o D x l S (stage-by (Err k) t block R o D x g) a
+      ∙ sym (text-by left block R o t (Err k) e g)
+  last-text (Ok (read.Block n next)) g l f a =
       let I = is_read t block n next g in
-      let s = stage-by (read.Block n next) t block R o D x g in
+      let s = stage-by (Ok (read.Block n next)) t block R o D x g in
       let fewer : ℕ = left - 1 in
       let less : left ≡ suc fewer = omega (arith, I.may) in
       ⊎_elim
@@ -393,18 +395,18 @@ module _ (R : Ready) (o : List ℕ) (D : Derived) (F : Fit R o D) (T : R.people 
       let H = shown-parts _ block R _ _ x S (s ∙ stage-differs R o D F T block t x room n next I.few I.fine h) in
       shown-last (ending.Differs block (place_in R o t n)) f _ _ _ _ l S H (shown-is R o D F T block t x room n next I.few I.fine) a
       ∙ sym (ap (λ (k : ℕ). blocks_text k R o t) less
-      ∙ text-by (suc fewer) block R o t (read.Block n next) (omega arith) g ∙ body-differs fewer R o t block n next h))
+      ∙ text-by (suc fewer) block R o t (Ok (read.Block n next)) (omega arith) g ∙ body-differs fewer R o t block n next h))
       (λ (h : n ≤ place_in R o t n).
       let H = shown-parts _ block R _ _ x S (s ∙ stage-agrees R o D F T block t x room n next I.few I.fine h) in
       absurd (last-not-more _ _ _ _ (sym a ∙ H.answer)))
       (lt-or-ge (place_in R o t n) n)
 
-  pub more-text : (q : BlockRead) → block_read t block ≡ q → (l next : ℕ) → S.answer ≡ played.More l next → Follows R o t left l next S
-  more-text read.End g l next a = absurd (ends-not _ o D x l next S (stage-by read.End t block R o D x g) a)
-  more-text (read.Refused k) g l next a = absurd (ends-not _ o D x l next S (stage-by (read.Refused k) t block R o D x g) a)
-  more-text (read.Block n past) g l next a =
+  pub more-text : (q : Result BlockRead ℕ) → block_read t block ≡ q → (l next : ℕ) → S.answer ≡ played.More l next → Follows R o t left l next S
+  more-text (Ok read.End) g l next a = absurd (ends-not _ o D x l next S (stage-by (Ok read.End) t block R o D x g) a)
+  more-text (Err k) g l next a = absurd (ends-not _ o D x l next S (stage-by (Err k) t block R o D x g) a)
+  more-text (Ok (read.Block n past)) g l next a =
       let I = is_read t block n past g in
-      let s = stage-by (read.Block n past) t block R o D x g in
+      let s = stage-by (Ok (read.Block n past)) t block R o D x g in
       let fewer : ℕ = left - 1 in
       let less : left ≡ suc fewer = omega (arith, I.may) in
       ⊎_elim
@@ -433,7 +435,7 @@ module _ (R : Ready) (o : List ℕ) (D : Derived) (F : Fit R o D) (T : R.people 
         text = λ y z.
             ap₂ (λ (u w : List ℕ). u ++ w) shown (z ∙ ap₂ (λ (w : List ℕ) (m : ℕ). blocks_text fewer R w (drop m t)) owners (sym same))
             ∙ sym (ap (λ (m : ℕ). blocks_text m R o t) less
-            ∙ text-by (suc fewer) block R o t (read.Block n past) (omega arith) g ∙ body-agrees fewer R o t block n past h);
+            ∙ text-by (suc fewer) block R o t (Ok (read.Block n past)) (omega arith) g ∙ body-agrees fewer R o t block n past h);
       })
       (lt-or-ge (place_in R o t n) n)
 

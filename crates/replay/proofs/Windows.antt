@@ -1,4 +1,5 @@
 -- However a recording is streamed: what its first bytes say of where the job ends, and those of a block of that block. Assumes nothing.
+use Rattle.std.specs.Prelude.{Result, Ok}
 use mathlib.Core.Path.{◌≡◌, refl, sym, ap, ap₂, ◌∙◌}
 use mathlib.Core.Logic.{◌⊎◌, inl, inr}
 use mathlib.Core.Bool.{Bool, true, not, cond, ◌&&◌, ◌||◌}
@@ -9,7 +10,7 @@ use borrow.Author.Tests.{le-leb, ne_eqb, leb-true, leb-false}
 use lib.Dec.{leb, ltb, eqb}
 use lib.ListN.{length, length-append}
 use Rattle.paper.specs.Limits.{draws_most}
-use Rattle.paper.specs.Rows.{unless}
+use Rattle.paper.specs.Rows.{answer_as}
 use Rattle.paper.proofs.Logic.{by-test}
 use Rattle.paper.proofs.Count.{all-each, each_all, all_same}
 use Rattle.records.specs.Fields.{le}
@@ -75,7 +76,7 @@ window-block p r blocks h =
     let f : fault_at (p ++ r) blocks n ≡ fault_at p blocks n = fault-front p r blocks n (omega arith) in
     let some : length p ≡ 0 → ⊥ = λ e. omega arith in
     let more : length (p ++ r) ≡ 0 → ⊥ = λ e. omega (arith, long p r) in
-    let answer : Bool → ℕ → ℕ → BlockRead = λ b k v. cond b read.End (unless v (read.Refused v) (read.Block k (k * 12 + 4))) in
+    let answer : Bool → ℕ → ℕ → Result BlockRead ℕ = λ b k v. cond b (Ok read.End) (answer_as v (read.Block k (k * 12 + 4))) in
     ap (λ (b : Bool). answer b (lead (draw_fine (p ++ r) blocks) draws_most) (fault_at (p ++ r) blocks (lead (draw_fine (p ++ r) blocks) draws_most)))
     (ne_eqb _ _ more ∙ sym (ne_eqb _ _ some))
     ∙ ap (λ (k : ℕ). answer (eqb (length p) 0) k (fault_at (p ++ r) blocks k)) same

@@ -1,5 +1,5 @@
 -- A recording as a list of records: how draws and blocks are written, and what stands at the front for each answer of a reader. Assumes nothing.
-use Rattle.std.specs.Prelude.{◌≡◌, ◌⊎◌, List, [], ◌∷◌, ◌++◌, map, ℕ, ◌≤◌, ◌<◌, length, get_or}
+use Rattle.std.specs.Prelude.{◌≡◌, ◌⊎◌, List, [], ◌∷◌, ◌++◌, map, ℕ, ◌≤◌, ◌<◌, length, get_or, Result, Ok, Err}
 use Rattle.paper.specs.Limits.{draws_most}
 use Rattle.records.specs.Fields.{le_bytes}
 use Rattle.records.specs.Records.{Rec, bytes_of, file_of, record_of}
@@ -93,10 +93,10 @@ pub record FaultFirst (t : List ℕ) (blocks k : ℕ) : Type 0 where
   pub faulty : Faulty blocks (length draws) rest k
 
 -- what each answer says of t
-abbrev pub ReadOf : List ℕ → ℕ → BlockRead → Type 0
-ReadOf t blocks (read.Block n next) = BlockFirst t blocks n next
-ReadOf t blocks read.End = t ≡ []
-ReadOf t blocks (read.Refused k) = FaultFirst t blocks k
+abbrev pub ReadOf : List ℕ → ℕ → Result BlockRead ℕ → Type 0
+ReadOf t blocks (Ok (read.Block n next)) = BlockFirst t blocks n next
+ReadOf t blocks (Ok read.End) = t ≡ []
+ReadOf t blocks (Err k) = FaultFirst t blocks k
 
 -- four columns hold draws and their answers
 pub record Holds (ds : List Recorded) (ks fs ss rs : List ℕ) : Type 0 where

@@ -1,7 +1,7 @@
 -- Reading a recording: where its job ends, and the block at the front of the bytes that follow. Assumes nothing.
-use Rattle.std.specs.Prelude.{◌≡◌, Bool, ◌&&◌, ◌||◌, not, cond, List, [], ◌∷◌, ℕ, ◌+◌, ◌*◌, leb, ltb, eqb, length}
+use Rattle.std.specs.Prelude.{◌≡◌, Bool, ◌&&◌, ◌||◌, not, cond, List, [], ◌∷◌, ℕ, ◌+◌, ◌*◌, leb, ltb, eqb, length, Result, Ok, Err}
 use Rattle.paper.specs.Limits.{Test, test, number_of, draws_most}
-use Rattle.paper.specs.Rows.{unless}
+use Rattle.paper.specs.Rows.{answer_as}
 use Rattle.paper.specs.Count.{over}
 use Rattle.records.specs.Fields.{le}
 use Rattle.records.specs.Records.{record_at, lead}
@@ -63,19 +63,19 @@ unfoldable pub leading_draws : List ℕ → ℕ → ℕ
 leading_draws t blocks = lead (draw_fine t blocks) draws_most
 
 -- nothing is left: the end. Else the record after the leading draws closes the block, or is the first faulty one
-unfoldable pub block_read : List ℕ → ℕ → BlockRead
+unfoldable pub block_read : List ℕ → ℕ → Result BlockRead ℕ
 block_read t blocks =
     let n = leading_draws t blocks in
     let f = fault_at t blocks n in
-    cond (eqb (length t) 0) read.End (unless f (read.Refused f) (read.Block n (n * 12 + 4)))
+    cond (eqb (length t) 0) (Ok read.End) (answer_as f (read.Block n (n * 12 + 4)))
 
 -- ---- the block in columns
 
 -- how many draws were read
-abbrev pub draws_in : BlockRead → ℕ
-draws_in (read.Block n next) = n
-draws_in read.End = 0
-draws_in (read.Refused k) = 0
+abbrev pub draws_in : Result BlockRead ℕ → ℕ
+draws_in (Ok (read.Block n next)) = n
+draws_in (Ok read.End) = 0
+draws_in (Err k) = 0
 
 -- the number at `off` of each of n records
 unfoldable pub fields_of : List ℕ → ℕ → ℕ → List ℕ → List ℕ
@@ -85,12 +85,12 @@ fields_of t off n x = over (λ j. le 2 t (j * 12 + off)) n x
 unfoldable pub columns_room : ℕ → List ℕ → List ℕ → List ℕ → List ℕ → Bool
 columns_room n ks fs ss rs = leb n (length ks) && (leb n (length fs) && (leb n (length ss) && leb n (length rs)))
 
-unfoldable pub read_answer : List ℕ → ℕ → List ℕ → List ℕ → List ℕ → List ℕ → BlockRead
+unfoldable pub read_answer : List ℕ → ℕ → List ℕ → List ℕ → List ℕ → List ℕ → Result BlockRead ℕ
 read_answer t blocks ks fs ss rs =
-    let r = block_read t blocks in cond (columns_room (draws_in r) ks fs ss rs) r (read.Refused 2)
+    let r = block_read t blocks in cond (columns_room (draws_in r) ks fs ss rs) r (Err 2)
 
 -- the answer r, and the columns at exit: the draws and their answers, and as they were past those
-pub record ReadsAs (t : List ℕ) (blocks : ℕ) (ks fs ss rs : List ℕ) (r : BlockRead) (ks' fs' ss' rs' : List ℕ) : Type 0 where
+pub record ReadsAs (t : List ℕ) (blocks : ℕ) (ks fs ss rs : List ℕ) (r : Result BlockRead ℕ) (ks' fs' ss' rs' : List ℕ) : Type 0 where
   pub said : r ≡ read_answer t blocks ks fs ss rs
   pub draws : ks' ≡ fields_of t 4 (draws_in r) ks
   pub firsts : fs' ≡ fields_of t 6 (draws_in r) fs

@@ -1,5 +1,5 @@
 -- The rule of a replay, beside the text that works it out: each block is shown by the job's owners and all draws so far as one list. Assumes nothing.
-use Rattle.std.specs.Prelude.{◌≡◌, true, false, List, [], ◌++◌, ℕ, suc, ◌<◌, take, drop}
+use Rattle.std.specs.Prelude.{◌≡◌, true, false, List, [], ◌++◌, ℕ, suc, ◌<◌, take, drop, Ok, Err}
 use Rattle.owners.specs.Entries.{placeless}
 use Rattle.rota.specs.Moves.{Draw}
 use Rattle.rota.specs.Plays.{owners_after}
@@ -27,13 +27,13 @@ pub data Shows (R : Ready) (o : List ℕ) : ℕ → List Draw → List ℕ → L
   -- nothing is left
   ends : (block : ℕ) (so : List Draw) (t : List ℕ) → t ≡ [] → Shows R o block so t (last_line ending.Agrees)
   -- a block with a faulty record: nothing of it is played or shown
-  refuses : (block : ℕ) (so : List Draw) (t : List ℕ) (k : ℕ) → block_read t block ≡ read.Refused k
+  refuses : (block : ℕ) (so : List Draw) (t : List ℕ) (k : ℕ) → block_read t block ≡ Err k
       → Shows R o block so t (last_line (ending.Refused (placeless k)))
   -- draw p is the first that is answered otherwise: it is played, later ones aren't
-  differs : (block : ℕ) (so : List Draw) (t : List ℕ) (n next p : ℕ) → block_read t block ≡ read.Block n next → p < n
+  differs : (block : ℕ) (so : List Draw) (t : List ℕ) (n next p : ℕ) → block_read t block ≡ Ok (read.Block n next) → p < n
       → ((i : ℕ) → i < p → Agrees R o so t n i) → Differs R o so t n p
       → Shows R o block so t (shown_after block R o (so ++ take (suc p) (draws_in t n)) ++ last_line (ending.Differs block p))
   -- every draw is answered as recorded, and the next block follows
-  agrees : (block : ℕ) (so : List Draw) (t : List ℕ) (n next : ℕ) (y : List ℕ) → block_read t block ≡ read.Block n next
+  agrees : (block : ℕ) (so : List Draw) (t : List ℕ) (n next : ℕ) (y : List ℕ) → block_read t block ≡ Ok (read.Block n next)
       → ((i : ℕ) → i < n → Agrees R o so t n i) → Shows R o (suc block) (so ++ draws_in t n) (drop next t) y
       → Shows R o block so t (shown_after block R o (so ++ draws_in t n) ++ y)

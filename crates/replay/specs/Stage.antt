@@ -1,5 +1,6 @@
 -- The next block of a recording on a lent rota: read, played, shown. What is answered, and what is left. Assumes nothing.
-use Rattle.std.specs.Prelude.{◌≡◌, List, ℕ, length, replicate}
+use Rattle.std.specs.Prelude.{◌≡◌, List, ℕ, length, replicate, Result, Ok, Err}
+use Rattle.paper.specs.declared.Refusal.{Refusal}
 use Rattle.paper.specs.Rows.{unless, refusal_of}
 use Rattle.owners.specs.Derived.{Derived}
 use Rattle.owners.specs.Entries.{placeless}
@@ -37,11 +38,11 @@ shown_as f block R o D x =
     record { answer = f (length (shown_by block R o D)); owners = o; derived = D; out = put (shown_by block R o D) 0 x }
 
 -- by what the replay of the block answers: y is its outcome, o and D are as before it
-abbrev pub played_by : Replayed → ℕ → ℕ → Ready → rota.Outcome → List ℕ → Derived → List ℕ → Staged
-played_by replayed.Agrees block next R y o D x = shown_as (λ l. played.More l next) block R y.owners y.derived x
-played_by (replayed.Differs p) block next R y o D x =
+abbrev pub played_by : Result Replayed Refusal → ℕ → ℕ → Ready → rota.Outcome → List ℕ → Derived → List ℕ → Staged
+played_by (Ok replayed.Agrees) block next R y o D x = shown_as (λ l. played.More l next) block R y.owners y.derived x
+played_by (Ok (replayed.Differs p)) block next R y o D x =
     shown_as (λ l. played.Last l (ending.Differs block p)) block R y.owners y.derived x
-played_by (replayed.Refused f) block next R y o D x = ends_with (ending.Refused f) o D x
+played_by (Err f) block next R y o D x = ends_with (ending.Refused f) o D x
 
 -- n draws in columns with their recorded answers, where the text has room
 unfoldable pub block_stage : ℕ → ℕ → ℕ → List ℕ → List ℕ → List ℕ → List ℕ → Ready → List ℕ → Derived → List ℕ → Staged
@@ -51,12 +52,12 @@ block_stage block next n ks fs ss rs R o D x =
     unless f.number (ends_with (ending.Refused f) o D x) (played_by y.answer block next R y o D x)
 
 -- by what was read
-abbrev pub stage_by : BlockRead → List ℕ → ℕ → Ready → List ℕ → Derived → List ℕ → Staged
-stage_by (read.Block n next) t block R o D x =
+abbrev pub stage_by : Result BlockRead ℕ → List ℕ → ℕ → Ready → List ℕ → Derived → List ℕ → Staged
+stage_by (Ok (read.Block n next)) t block R o D x =
     block_stage block next n (fields_of t 4 n (replicate 1024 0)) (fields_of t 6 n (replicate 1024 0)) (fields_of t 8 n (replicate 1024 0))
     (fields_of t 10 n (replicate 1024 0)) R o D x
-stage_by read.End t block R o D x = ends_with ending.Agrees o D x
-stage_by (read.Refused n) t block R o D x = ends_with (ending.Refused (placeless n)) o D x
+stage_by (Ok read.End) t block R o D x = ends_with ending.Agrees o D x
+stage_by (Err n) t block R o D x = ends_with (ending.Refused (placeless n)) o D x
 
 unfoldable pub stage_of : List ℕ → ℕ → Ready → List ℕ → Derived → List ℕ → Staged
 stage_of t block R o D x = stage_by (block_read t block) t block R o D x

@@ -1,5 +1,5 @@
 -- The text that a recording's replay writes, said of its file alone. Assumes nothing.
-use Rattle.std.specs.Prelude.{cond, List, [], ◌++◌, ℕ, zero, suc, ◌-◌, eqb, take, drop, replicate}
+use Rattle.std.specs.Prelude.{cond, List, [], ◌++◌, ℕ, zero, suc, ◌-◌, eqb, take, drop, replicate, Result, Ok, Err}
 use Rattle.paper.specs.Rows.{unless, refusal_of}
 use Rattle.paper.specs.Count.{over}
 use Rattle.owners.specs.Derived.{worked}
@@ -36,10 +36,10 @@ shown_text block R o =
     block_text block R.people R.slots R.starts R.ends o (over (worked (plan_of R) o) R.people (replicate 32 0)) R.targets
 
 -- by what stands at the front: a block, of n draws and with the next after it; E at the end; R where a record is faulty
-abbrev pub text_by : BlockRead → (ℕ → ℕ → List ℕ) → List ℕ
-text_by (read.Block n next) f = f n next
-text_by read.End f = last_line ending.Agrees
-text_by (read.Refused k) f = last_line (ending.Refused (placeless k))
+abbrev pub text_by : Result BlockRead ℕ → (ℕ → ℕ → List ℕ) → List ℕ
+text_by (Ok (read.Block n next)) f = f n next
+text_by (Ok read.End) f = last_line ending.Agrees
+text_by (Err k) f = last_line (ending.Refused (placeless k))
 
 -- the blocks in t, of which `left` may still come, from a rota of these owners: each is shown as it stands after the draws that are played; the
 -- next follows where every answer agrees, else the line of the first that doesn't

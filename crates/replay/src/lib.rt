@@ -14,13 +14,11 @@ pub const BLOCKS_MOST: usize = 65535;
 // How many of the bytes that are left say what the next block is, however many follow: its most draws, and one record more.
 pub const WINDOW_LEAST: usize = 12300;
 
-// What stands at the front of the bytes after a job or a block: a block, by how many draws it has and where the next begins; the end; or the number
-// of a refusal.
+// What stands at the front of the bytes after a job or a block: a block, by how many draws it has and where the next begins; or the end.
 #[derive(Clone, Copy)]
 pub enum BlockRead {
     Block { draws: usize, next: usize },
     End,
-    Refused(u8),
 }
 
 // What the next block came to: its text's length and where the one after it begins; or, where nothing comes after it, its text's length, 0 without

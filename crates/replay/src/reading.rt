@@ -11,6 +11,7 @@ pub fn job_end(s: &[u8]) -> usize
     ensures { result ≡ job_end s.now }
 {
     let mut at: usize = 0;
+    // a while: each turn jumps to where the record ends, so no range is walked
     while 4 <= s.len() - at {
         let kind = records::field(s, at + 2, 2);
         if kind == 8 {
@@ -103,43 +104,40 @@ fn draw_fine(t: &[u8], blocks: usize, j: usize) -> bool
 fn leading_draws(t: &[u8], blocks: usize) -> usize
     ensures { (result ≡ leading_draws t.now blocks) × (result ≤ 1024) × (result * 12 ≤ length t.now) }
 {
-    let mut n: usize = 0;
-    while n < paper::DRAWS_MOST {
-        if draw_fine(t, blocks, n) {
-            n += 1;
-        } else {
+    for n in 0..paper::DRAWS_MOST {
+        if !draw_fine(t, blocks, n) {
             return n;
         }
     }
-    n
+    paper::DRAWS_MOST
 }
 
 // What stands at the front of t: a block, the end, or the number of the first faulty record.
-fn block_at(t: &[u8], blocks: usize) -> BlockRead
+fn block_at(t: &[u8], blocks: usize) -> Result<BlockRead, u8>
     ensures { (result ≡ block_read t.now blocks) × (draws_in result ≤ 1024) × (draws_in result * 12 ≤ length t.now) }
 {
     if t.len() == 0 {
-        return BlockRead::End;
+        return Ok(BlockRead::End);
     }
     let n = leading_draws(t, blocks);
     let f = fault_at(t, blocks, n);
     if f == 0 {
-        return BlockRead::Block {
+        return Ok(BlockRead::Block {
             draws: n,
             next: n * 12 + 4,
-        };
+        });
     }
-    BlockRead::Refused(f)
+    Err(f)
 }
 
 // How many draws were read.
-fn draws_in(r: BlockRead) -> usize
+fn draws_in(r: Result<BlockRead, u8>) -> usize
     ensures { result ≡ draws_in r }
 {
     match r {
-        BlockRead::Block { draws, next: _ } => draws,
-        BlockRead::End => 0,
-        BlockRead::Refused(_) => 0,
+        Ok(BlockRead::Block { draws, next: _ }) => draws,
+        Ok(BlockRead::End) => 0,
+        Err(_) => 0,
     }
 }
 
@@ -148,10 +146,8 @@ fn read_fields(t: &[u8], off: usize, n: usize, out: &mut [u16])
     requires { (n ≤ 1024) × (n * 12 ≤ length t.now) × (off ≤ 10) × (n ≤ length out.old) }
     ensures { out.new ≡ fields_of t.now off n out.old }
 {
-    let mut j: usize = 0;
-    while j < n {
+    for j in 0..n {
         out[j] = records::field(t, j * 12 + off, 2) as u16;
-        j += 1;
     }
 }
 
@@ -180,7 +176,7 @@ pub fn read_block(
     firsts: &mut [u16],
     seconds: &mut [u16],
     recorded: &mut [u16],
-) -> BlockRead
+) -> Result<BlockRead, u8>
     ensures { ReadsAs t.now blocks draws.old firsts.old seconds.old
         recorded.old result draws.new firsts.new seconds.new recorded.new }
 {
@@ -193,5 +189,5 @@ pub fn read_block(
         read_fields(t, 10, n, recorded);
         return r;
     }
-    BlockRead::Refused(2)
+    Err(2)
 }

@@ -9,7 +9,7 @@ ghost use Rattle.replay.specs.Stage.{stage_of, block_stage, StagedAs};
 
 use crate::reading::read_block;
 use crate::{BlockRead, Played};
-use job::{Ending, JobAnswer};
+use job::Ending;
 use paper::Refusal;
 use rota::replay::Replayed;
 
@@ -33,8 +33,8 @@ fn show(
         block, people, slots, starts, ends, owners, minutes, targets, out,
     );
     match answer {
-        JobAnswer::Length(n) => n,
-        JobAnswer::Refused(_) => 0,
+        Ok(n) => n,
+        Err(_) => 0,
     }
 }
 
@@ -79,18 +79,17 @@ fn play_read(
         out.len(),
     );
     if short.number == 0 {
-        let r = rota::replay::replay_block(
+        match rota::replay::replay_block(
             people, slots, units, count, starts, ends, avail, begins, frozen, draws, firsts,
             seconds, recorded, owners, sets, minutes, totals,
-        );
-        match r {
-            Replayed::Agrees => {
+        ) {
+            Ok(Replayed::Agrees) => {
                 let length = show(
                     block, people, slots, starts, ends, owners, minutes, targets, out,
                 );
                 Played::More { length, next }
             }
-            Replayed::Differs(place) => {
+            Ok(Replayed::Differs(place)) => {
                 let length = show(
                     block, people, slots, starts, ends, owners, minutes, targets, out,
                 );
@@ -99,7 +98,7 @@ fn play_read(
                     end: Ending::Differs { block, place },
                 }
             }
-            Replayed::Refused(f) => Played::Last {
+            Err(f) => Played::Last {
                 length: 0,
                 end: Ending::Refused(f),
             },
@@ -140,24 +139,23 @@ pub fn play_block(
     let mut firsts = [0u16; 1024];
     let mut seconds = [0u16; 1024];
     let mut recorded = [0u16; 1024];
-    let b = read_block(
+    match read_block(
         t,
         block,
         &mut draws,
         &mut firsts,
         &mut seconds,
         &mut recorded,
-    );
-    match b {
-        BlockRead::Block { draws: count, next } => play_read(
+    ) {
+        Ok(BlockRead::Block { draws: count, next }) => play_read(
             block, next, people, slots, units, count, starts, ends, avail, begins, frozen, targets,
             &draws, &firsts, &seconds, &recorded, owners, sets, minutes, totals, out,
         ),
-        BlockRead::End => Played::Last {
+        Ok(BlockRead::End) => Played::Last {
             length: 0,
             end: Ending::Agrees,
         },
-        BlockRead::Refused(n) => Played::Last {
+        Err(n) => Played::Last {
             length: 0,
             end: Ending::Refused(Refusal {
                 number: n,

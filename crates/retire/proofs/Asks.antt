@@ -35,23 +35,6 @@ use Rattle.retire.specs.Outcome.{comes_after, figures_ok, figures_then_ok}
 use Rattle.units.specs.Settings.{settings_ok}
 use Rattle.retire.specs.Inside.{NewRight}
 
--- ---- the parts of one test
-
-module _ (fault base kept : ℕ) (x : Bool) where
-  pub after-sound : fault ≡ 9 → (eqb fault 9 || (leb base 0 || (leb kept 0 || x))) ≡ true
-  after-sound e = simp (eq-eqb fault 9 e)
-
-  pub after_none : base ≡ 0 → (eqb fault 9 || (leb base 0 || (leb kept 0 || x))) ≡ true
-  after_none e = by-test (eqb fault 9) _ (λ t. simp t) (λ f. simp (f, le-leb base 0 (omega arith)))
-
-  pub after-all : kept ≡ 0 → (eqb fault 9 || (leb base 0 || (leb kept 0 || x))) ≡ true
-  after-all e =
-      by-test (eqb fault 9) _ (λ t. simp t)
-      (λ f. by-test (leb base 0) _ (λ t. simp (f, t)) (λ g. simp (f, g, le-leb kept 0 (omega arith))))
-
-  pub after-so : (fault ≡ 9 → ⊥) → (base ≡ 0 → ⊥) → (kept ≡ 0 → ⊥) → (eqb fault 9 || (leb base 0 || (leb kept 0 || x))) ≡ x
-  after-so a b c = simp (ne_eqb fault 9 a, lt-leb base 0 (omega (arith, b)), lt-leb kept 0 (omega (arith, c)))
-
 -- ---- 1 and 2, passed
 
 -- what the recount asks of 1 and 2

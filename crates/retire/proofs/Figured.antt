@@ -1,11 +1,8 @@
 -- The minutes that go, person by person. Assumes nothing.
 use mathlib.Core.Path.{◌≡◌, sym, ap, ap₂, ◌∙◌}
-use mathlib.Core.Bool.{Bool, true, ◌&&◌}
 use mathlib.Core.List.{List}
-use Prim.Native.Nat.{ℕ, ◌+◌, ◌-◌, ◌≤◌, ◌<◌}
+use Prim.Native.Nat.{ℕ, ◌+◌, ◌≤◌}
 use native.Mathlib.Omega.{arith}
-use borrow.Author.Tests.{le-leb, lt-leb}
-use lib.Dec.{leb}
 use lib.ListN.{length, get_or, set}
 use Rattle.paper.specs.Limits.{nobody}
 use Rattle.paper.specs.Count.{over}
@@ -13,17 +10,6 @@ use Rattle.paper.proofs.Count.{over_none, over-more, length_over, get_d-over-out
 use Rattle.owners.specs.Derived.{plan, worked, uncovered}
 use Rattle.retire.specs.Rolled.{entry}
 use Rattle.retire.specs.Going.{prior_then, retired_then, priors_then, retired_column}
-
--- whether a sum is 100,000,000 at most, without adding
-pub sum_fits : (a b : ℕ) → a ≤ 100000000 → leb b (100000000 - a) ≡ leb (a + b) 100000000
-sum_fits a b h =
-    mathlib.Core.Logic.⊎_elim
-    (λ (l : 100000000 < a + b). lt-leb b (100000000 - a) (omega arith) ∙ sym (lt-leb (a + b) 100000000 l))
-    (λ (l : a + b ≤ 100000000). le-leb b (100000000 - a) (omega arith) ∙ sym (le-leb (a + b) 100000000 l))
-    (Rattle.paper.proofs.Logic.lt-or-ge 100000000 (a + b))
-
-pub sum_past : (a b : ℕ) → 100000000 < a → leb (a + b) 100000000 ≡ mathlib.Core.Bool.false
-sum_past a b h = lt-leb (a + b) 100000000 (omega arith)
 
 module _ (people gone : ℕ) (starts ends o : List ℕ) where
   -- what is worked doesn't ask how many people there are

@@ -1,4 +1,5 @@
 -- What is new, where it was written: slots, units and who is available. Assumes nothing.
+use Rattle.std.specs.Prelude.{Result}
 use mathlib.Core.Path.{◌≡◌, refl, sym, ap, ◌∙◌}
 use mathlib.Core.Bool.{Bool, true, false, ◌&&◌, ◌||◌, cond}
 use mathlib.Core.Logic.{⊎_elim}
@@ -13,8 +14,7 @@ use Rattle.paper.specs.Count.{all, among, onto}
 use Rattle.paper.proofs.Logic.{both, and-true, lt-or-ge, people-says, by-test}
 use Rattle.paper.proofs.Rows.{all_pass, worked, kept, passed}
 use Rattle.paper.proofs.Count.{onto-none, among-le}
-use Rattle.slotset.specs.declared.Number.{Number}
-use Rattle.slotset.specs.Answers.{number_as}
+use Rattle.paper.specs.Rows.{answer_as}
 use Rattle.slotset.specs.Slots.{slot}
 use Rattle.slots.specs.Lent.{slot_room_ok, slots_ok, slot_ok_at}
 use Rattle.slots.specs.Ranges.{Ranges, ranges, range_count_ok, range_room_ok, range_ok_at, ranges_ok}
@@ -103,20 +103,20 @@ module _ (s : Settings) (n : ℕ) (starts ends begins : List ℕ) (few : n ≤ 1
   unfolding starts_row number_of
   none_number h = simp (count_none n h)
 
-  pub units-are : (r : Number) (b : List ℕ) (m : ℕ) → EndsAs (unit_starts_is s n starts ends begins) r b → m ≡ number_or r 0
+  pub units-are : (r : Result ℕ ℕ) (b : List ℕ) (m : ℕ) → EndsAs (unit_starts_is s n starts ends begins) r b → m ≡ number_or r 0
       → Written (unit_starts s n starts) b m
-  unfolding unit_starts_is written_as number_as
+  unfolding unit_starts_is written_as answer_as
   units-are r b m E q =
       let l = unit_starts s n starts in
       let x = number_of (starts_row s n starts ends begins) in
       let none : n ≤ 0 → (m ≡ length l) × (b ≡ onto l begins) = λ (h : n ≤ 0).
       let o : x ≡ 0 → ⊥ = λ z. omega (arith, none_number h, z) in
       let empty : length l ≡ 0 = ap length (none-starts h) in (
-        q ∙ ap (λ (y : Number). number_or y 0) (E.said ∙ kept x _ _ o) ∙ sym empty,
+        q ∙ ap (λ (y : Result ℕ ℕ). number_or y 0) (E.said ∙ kept x _ _ o) ∙ sym empty,
         E.left ∙ kept x _ _ o ∙ onto-none begins ∙ ap (λ (y : List ℕ). onto y begins) (sym (none-starts h)),
       ) in
       let some : 0 < n → (m ≡ length l) × (b ≡ onto l begins) = λ (h : 0 < n). (
-        q ∙ ap (λ (y : Number). number_or y 0) (E.said ∙ worked x _ _ (starts-pass h)),
+        q ∙ ap (λ (y : Result ℕ ℕ). number_or y 0) (E.said ∙ worked x _ _ (starts-pass h)),
         E.left ∙ worked x _ _ (starts-pass h),
       ) in
       let got : (m ≡ length l) × (b ≡ onto l begins) = ⊎_elim some none (lt-or-ge 0 n) in
@@ -175,16 +175,16 @@ module _ (people n : ℕ) (starts ends : List ℕ) (R : Ranges) (N : NewRight pe
   number-full : 1024 < length A → number_of (atomise_row B) ≡ 5
   number-full h = fits-number B fits ∙ simp (N.base_ok, N.ranges-ok, lt-leb (length A) 1024 h)
 
-  module _ (r : Number) (s e : List ℕ) (m : ℕ) (E : AtomsEnd (atomise_of B) r s e) (q : m ≡ number_or r 1025) where
+  module _ (r : Result ℕ ℕ) (s e : List ℕ) (m : ℕ) (E : AtomsEnd (atomise_of B) r s e) (q : m ≡ number_or r 1025) where
     full-then : 1024 < length A → m ≡ 1025
-    unfolding atomise_of number_as
+    unfolding atomise_of answer_as
     full-then h =
-        q ∙ ap (λ (y : Number). number_or y 1025)
+        q ∙ ap (λ (y : Result ℕ ℕ). number_or y 1025)
         (E.said ∙ kept (number_of (atomise_row B)) _ _ (λ z. omega (arith, number-full h, z)))
 
     number-then : length A ≤ 1024 → m ≡ length A
-    unfolding atomise_of number_as
-    number-then h = q ∙ ap (λ (y : Number). number_or y 1025) (E.said ∙ worked (number_of (atomise_row B)) _ _ (number-few h))
+    unfolding atomise_of answer_as
+    number-then h = q ∙ ap (λ (y : Result ℕ ℕ). number_or y 1025) (E.said ∙ worked (number_of (atomise_row B)) _ _ (number-few h))
 
     pub starts-are : Written (atom_starts (is_cut people R) n starts ends) s m
     unfolding atomise_of
@@ -227,8 +227,8 @@ module _ (people : ℕ) (R : Ranges) (p s e : List ℕ) (ok : people_ok people �
   unfolding merged_row
   merge-fails f z = mathlib.Core.Bool.true≢false (sym (passed (merged_row people R (columns p s e)) refl z 4) ∙ f)
 
-  pub ranges-by : (r : Number) → r ≡ (merged_ranges people R (columns p s e)).answer → is_number r ≡ ranges_ok people R
-  unfolding merged_ranges number_as
+  pub ranges-by : (r : Result ℕ ℕ) → r ≡ (merged_ranges people R (columns p s e)).answer → is_number r ≡ ranges_ok people R
+  unfolding merged_ranges answer_as
   ranges-by r q =
       by-test (ranges_ok people R) _
       (λ t. ap is_number (q ∙ worked (number_of (merged_row people R (columns p s e))) _ _ (merge-passes t)) ∙ sym t)

@@ -1,4 +1,5 @@
 -- The outcome of retiring, from what the code's calls say. Assumes nothing.
+use Rattle.std.specs.Prelude.{Ok, Err}
 use mathlib.Core.Path.{◌≡◌, sym, ap, ap₂, ◌∙◌}
 use mathlib.Core.Bool.{true, false}
 use mathlib.Core.List.{List}
@@ -41,20 +42,20 @@ module _ (H : Held) (N : New) (f : Refusal) (ef : f ≡ refusal_of (retire_row H
   passes : f.number ≡ 0 → eqb (refusal_of (retire_row H N)).number 0 ≡ true
   passes z = eq-eqb _ 0 (sym (ap (λ (x : Refusal). x.number) ef) ∙ z)
 
-  pub end_refused : (f.number ≡ 0 → ⊥) → Ended (retire_of H N) (retiring.Refused f) H.lent
+  pub end_refused : (f.number ≡ 0 → ⊥) → Ended (retire_of H N) (Err f) H.lent
   unfolding retire_of
   end_refused n =
       let no : eqb (refusal_of (retire_row H N)).number 0 ≡ false = ne_eqb _ 0 (λ z. n (ap (λ (x : Refusal). x.number) ef ∙ z)) in
-      record { said = simp no (ap retiring.Refused ef); left = simp no }
+      record { said = simp no (ap Err ef); left = simp no }
 
   module _ (z : f.number ≡ 0) (went : ℕ) (ew : went ≡ units_gone H) where
-    pub end-nothing : went ≡ 0 → Ended (retire_of H N) retiring.Nothing H.lent
+    pub end-nothing : went ≡ 0 → Ended (retire_of H N) (Ok retiring.Nothing) H.lent
     unfolding retire_of
     end-nothing y =
         let no : eqb (units_gone H) 0 ≡ true = eq-eqb _ 0 (sym ew ∙ y) in
         record { said = simp (passes z, no); left = simp (passes z, no) }
 
-    pub end-everything : (went ≡ 0 → ⊥) → went ≡ H.units → Ended (retire_of H N) retiring.Everything H.lent
+    pub end-everything : (went ≡ 0 → ⊥) → went ≡ H.units → Ended (retire_of H N) (Ok retiring.Everything) H.lent
     unfolding retire_of
     end-everything n y =
         let some : eqb (units_gone H) 0 ≡ false = ne_eqb _ 0 (λ q. n (ew ∙ q)) in
@@ -72,13 +73,13 @@ module _ (H : Held) (N : New) (f : Refusal) (ef : f ≡ refusal_of (retire_row H
       asked_of = right.asked
 
       pub end-retired : (gone n m : ℕ) (C : Columns) → gone ≡ slots_gone H → n ≡ slots_then H N → m ≡ units_then H N → C ≡ (held_then H N).lent
-          → Ended (retire_of H N) (retiring.Retired gone n m) C
+          → Ended (retire_of H N) (Ok (retiring.Retired gone n m)) C
       unfolding retire_of
       end-retired gone n m C eg en em ec =
           let a : eqb (units_gone H) 0 ≡ false = ne_eqb _ 0 (λ q. some (ew ∙ q)) in
           let b : eqb (units_gone H) H.units ≡ false = ne_eqb _ _ (λ q. rest (ew ∙ q)) in
           record {
-            said = simp (passes z, a, b) (ap (λ (x : ℕ). retiring.Retired x n m) eg ∙ ap₂ (λ (x y : ℕ). retiring.Retired (slots_gone H) x y) en em);
+            said = simp (passes z, a, b) (ap (λ (x : ℕ). Ok (retiring.Retired x n m)) eg ∙ ap₂ (λ (x y : ℕ). Ok (retiring.Retired (slots_gone H) x y)) en em);
             left = simp (passes z, a, b) ec;
           }
 

@@ -1,10 +1,8 @@
 -- What private functions of retire alone cite. Assumes nothing.
-use Rattle.std.specs.Prelude.{◌≡◌, Bool, true, false, ◌⊎◌, List, [], ℕ, ◌-◌, ◌*◌, ◌≤◌, ◌<◌, length}
+use Rattle.std.specs.Prelude.{◌≡◌, Bool, true, false, ◌⊎◌, List, [], ℕ, ◌-◌, ◌*◌, ◌≤◌, ◌<◌, length, Result, Ok, Err}
 use Rattle.paper.specs.Limits.{people_ok, ranges_most}
 use Rattle.paper.specs.Count.{onto}
 use Rattle.slotset.specs.Slots.{slot}
-use Rattle.slotset.specs.declared.Number.{Number}
-use Rattle.slotset.specs.declared.Number.TheVariants as number
 use Rattle.slots.specs.Lent.{slots_ok}
 use Rattle.slots.specs.Ranges.{Ranges, ranges_ok}
 use Rattle.slots.specs.Availability.{available_bit}
@@ -38,13 +36,13 @@ WordsAre people n R starts ends ws =
     (p k : ℕ) → p < people → k < n → slot ws (16 * p) k ≡ available_bit R starts ends p k
 
 -- a number that was asked for, or another where it was refused
-abbrev pub number_or : Number → ℕ → ℕ
-number_or (number.Is n) other = n
-number_or (number.Refused m) other = other
+abbrev pub number_or : Result ℕ ℕ → ℕ → ℕ
+number_or (Ok n) other = n
+number_or (Err m) other = other
 
-abbrev pub is_number : Number → Bool
-is_number (number.Is n) = true
-is_number (number.Refused m) = false
+abbrev pub is_number : Result ℕ ℕ → Bool
+is_number (Ok n) = true
+is_number (Err m) = false
 
 -- ---- the part of a rota that moves before its owners do
 

@@ -1,6 +1,7 @@
 -- The whole of retiring: the tests, what every lent column holds then, and what is answered. Assumes nothing.
-use Rattle.std.specs.Prelude.{◌≡◌, Bool, ◌&&◌, ◌||◌, not, cond, List, [], ◌∷◌, ◌++◌, ℕ, ◌+◌, ◌-◌, ◌*◌, eqb, leb, length}
+use Rattle.std.specs.Prelude.{◌≡◌, Bool, ◌&&◌, ◌||◌, not, cond, List, [], ◌∷◌, ◌++◌, ℕ, ◌+◌, ◌-◌, ◌*◌, eqb, leb, length, Result, Ok, Err}
 use Rattle.paper.specs.Limits.{people_ok, slot_count_ok, slots_most, set_words, last_minute, nobody, Test, test}
+use Rattle.paper.specs.declared.Refusal.{Refusal}
 use Rattle.paper.specs.Rows.{refusal_of}
 use Rattle.paper.specs.Count.{all, over}
 use Rattle.slotset.specs.Slots.{slot, put_slots}
@@ -172,10 +173,10 @@ retire_row H N = (asked_row H N ++ new_row H N) ++ held_row H
 -- ---- the outcome
 
 pub record Outcome : Type 0 where
-  pub answer : Retiring
+  pub answer : Result Retiring Refusal
   pub lent : Columns
 
-abbrev pub leaves : Retiring → Columns → Outcome
+abbrev pub leaves : Result Retiring Refusal → Columns → Outcome
 leaves r C = record { answer = r; lent = C }
 
 -- nothing goes, everything goes, or those that go are answered with the counts then; only the last changes anything
@@ -183,12 +184,12 @@ unfoldable pub retire_of : Held → New → Outcome
 retire_of H N =
     let f = refusal_of (retire_row H N) in
     cond (eqb f.number 0)
-    (cond (eqb (units_gone H) 0) (leaves retiring.Nothing H.lent)
-    (cond (eqb (units_gone H) H.units) (leaves retiring.Everything H.lent)
-    (leaves (retiring.Retired (slots_gone H) (slots_then H N) (units_then H N)) (held_then H N).lent)))
-    (leaves (retiring.Refused f) H.lent)
+    (cond (eqb (units_gone H) 0) (leaves (Ok retiring.Nothing) H.lent)
+    (cond (eqb (units_gone H) H.units) (leaves (Ok retiring.Everything) H.lent)
+    (leaves (Ok (retiring.Retired (slots_gone H) (slots_then H N) (units_then H N))) (held_then H N).lent)))
+    (leaves (Err f) H.lent)
 
 -- what is answered and what is left are those of the outcome
-pub record Ended (y : Outcome) (r : Retiring) (C : Columns) : Type 0 where
+pub record Ended (y : Outcome) (r : Result Retiring Refusal) (C : Columns) : Type 0 where
   pub said : r ≡ y.answer
   pub left : C ≡ y.lent

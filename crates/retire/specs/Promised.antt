@@ -1,5 +1,5 @@
 -- What retiring promises, said apart from how it is worked out. Assumes nothing.
-use Rattle.std.specs.Prelude.{◌≡◌, true, List, [], ◌∷◌, ℕ, ◌+◌, ◌-◌, ◌*◌, ◌≤◌, ◌<◌, length}
+use Rattle.std.specs.Prelude.{◌≡◌, true, List, [], ◌∷◌, ℕ, ◌+◌, ◌-◌, ◌*◌, ◌≤◌, ◌<◌, length, Ok, Err}
 use Rattle.paper.specs.Limits.{nobody, number_of}
 use Rattle.paper.specs.Count.{sum}
 use Rattle.slotset.specs.Slots.{slot}
@@ -93,9 +93,9 @@ ColumnFollows H N = (column : List ℕ) → 1024 ≤ length column → number_of
 -- ---- nothing, everything, and a refusal: exactly when; and then every lent byte is as it was
 
 pub record ExactlyWhen (H : Held) (N : New) : Type 0 where
-  pub nothing : number_of (retire_row H N) ≡ 0 → units_gone H ≡ 0 → retire_of H N ≡ leaves retiring.Nothing H.lent
+  pub nothing : number_of (retire_row H N) ≡ 0 → units_gone H ≡ 0 → retire_of H N ≡ leaves (Ok retiring.Nothing) H.lent
   pub everything : number_of (retire_row H N) ≡ 0 → (units_gone H ≡ 0 → ⊥) → units_gone H ≡ H.units
-      → retire_of H N ≡ leaves retiring.Everything H.lent
+      → retire_of H N ≡ leaves (Ok retiring.Everything) H.lent
   pub retired : Retires H N
-      → retire_of H N ≡ leaves (retiring.Retired (slots_gone H) (slots_then H N) (units_then H N)) (held_then H N).lent
-  pub refused : (number_of (retire_row H N) ≡ 0 → ⊥) → retire_of H N ≡ leaves (retiring.Refused (refusal_of (retire_row H N))) H.lent
+      → retire_of H N ≡ leaves (Ok (retiring.Retired (slots_gone H) (slots_then H N) (units_then H N))) (held_then H N).lent
+  pub refused : (number_of (retire_row H N) ≡ 0 → ⊥) → retire_of H N ≡ leaves (Err (refusal_of (retire_row H N))) H.lent

@@ -12,7 +12,6 @@ ghost use Rattle.retire.specs.New.{new};
 ghost use Rattle.retire.specs.Outcome.{held, columns, asked_row, retire_row};
 ghost use Rattle.retire.specs.Inside.{NewRight};
 
-use crate::column::left;
 use crate::figures::{figures_ok, figures_then_ok};
 use crate::fresh::{fresh_slots, ranges_ok};
 use crate::going::{gone_units, start_from};
@@ -20,13 +19,11 @@ use paper::Refusal;
 use units::Settings;
 
 // Whether the columns of ranges have room for them (rule 2).
+#[tactic(auto, unfolding(slots::specs::Ranges::range_room_ok))]
 fn range_room_ok(count: usize, persons: &[u16], opens: &[u32], shuts: &[u32]) -> bool
     ensures { result ≡ range_room_ok (ranges count persons.now opens.now shuts.now) }
 {
-    paper::both(
-        count <= persons.len(),
-        paper::both(count <= opens.len(), count <= shuts.len()),
-    )
+    count <= persons.len() && count <= opens.len() && count <= shuts.len()
 }
 
 // 1 and 2.
@@ -89,16 +86,10 @@ fn comes_after(
 ) -> bool
     ensures { result ≡ eqb fault 9 || (leb base 0 || (leb kept 0 || leb (entry ends.now (slots - 1)) (entry froms.now 0))) }
 {
-    if fault == 9 {
-        return true;
-    }
-    if base == 0 {
-        return true;
-    }
-    if kept == 0 {
-        return true;
-    }
-    slots::entry_of(ends, left(slots, 1)) <= slots::entry_of(froms, 0)
+    fault == 9
+        || base == 0
+        || kept == 0
+        || slots::entry_of(ends, slots.saturating_sub(1)) <= slots::entry_of(froms, 0)
 }
 
 // Rule 4 of the ranges. Where a test failed before, they are not walked.
@@ -114,10 +105,10 @@ fn check_ranges(
         × (range_room_ok (ranges count persons.now opens.now shuts.now) ≡ true) }
     ensures { result ≡ next before (test 4 (ranges_ok people (ranges count persons.now opens.now shuts.now))) }
 {
-    if before.number == 0 {
-        return paper::check(before, ranges_ok(people, count, persons, opens, shuts), 4);
+    if before.number != 0 {
+        return before;
     }
-    before
+    paper::check(before, ranges_ok(people, count, persons, opens, shuts), 4)
 }
 
 // Whether 1,024 slots have room for what is left and what is new.
@@ -125,10 +116,7 @@ fn fits(fault: u8, kept: usize, fresh: usize) -> bool
     requires { (kept ≤ 1024) × (fresh ≤ 1025) }
     ensures { result ≡ eqb fault 9 || leb (kept + fresh) 1024 }
 {
-    if fault == 9 {
-        return true;
-    }
-    kept + fresh <= paper::SLOTS_MOST
+    fault == 9 || kept + fresh <= paper::SLOTS_MOST
 }
 
 // Rule 5: more than 1,024 slots would result, where slots and units are sound. Nothing is split where a test failed before.
@@ -148,11 +136,11 @@ fn check_fits(
     requires { (kept ≤ 1024) × (before.number ≡ 0 → NewRight people base froms.now tos.now (ranges count persons.now opens.now shuts.now)) }
     ensures { result ≡ next before (test 5 (eqb fault 9 || leb (kept + length (atom_starts (is_cut people (ranges count persons.now opens.now shuts.now)) base froms.now tos.now)) 1024)) }
 {
-    if before.number == 0 {
-        let fresh = fresh_slots(people, base, count, froms, tos, persons, opens, shuts);
-        return paper::check(before, fits(fault, kept, fresh.count), 5);
+    if before.number != 0 {
+        return before;
     }
-    before
+    let fresh = fresh_slots(people, base, count, froms, tos, persons, opens, shuts);
+    paper::check(before, fits(fault, kept, fresh.count), 5)
 }
 
 // Whether prior minutes and the retired total stay within 100,000,000, where the rota is whole.
@@ -169,20 +157,14 @@ fn lifted_ok(
     requires { (people ≤ 32) × (fault ≡ 0 → gone ≤ 1024) }
     ensures { result ≡ not (eqb fault 0) || (all people (λ p. leb (prior_then (plan people gone starts.now ends.now) owners.now priors.now gone p) last_minute) && leb (retired_then (plan people gone starts.now ends.now) owners.now retired.now gone) last_minute) }
 {
-    if fault == 0 {
-        return figures_then_ok(people, gone, starts, ends, owners, priors, retired);
-    }
-    true
+    fault != 0 || figures_then_ok(people, gone, starts, ends, owners, priors, retired)
 }
 
 // The first refusal, or else the later one.
 fn or_later(first: Refusal, later: Refusal) -> Refusal
     ensures { (first.number ≡ 0 → result ≡ later) × ((first.number ≡ 0 → ⊥) → result ≡ first) }
 {
-    if first.number == 0 {
-        return later;
-    }
-    first
+    if first.number == 0 { later } else { first }
 }
 
 // All of them: 1 to 7, then 9 and 10 of the rota as it is lent.
@@ -218,29 +200,29 @@ pub(crate) fn retire_refusal(
         people, slots, units, base, count, settings, froms, tos, persons, opens, shuts, starts,
         ends, avail, begins, frozen, owners, sets, minutes, totals, priors, retired,
     );
-    if f.number == 0 {
-        let later = owners::recounted(
-            true, true, people, slots, units, starts, ends, avail, begins, owners, sets, minutes,
-            totals,
-        );
-        let fault = later.number;
-        let went = gone_units(slots, units, begins, frozen);
-        let gone = start_from(slots, units, begins, went);
-        let kept = left(slots, gone);
-        let g = slots::check_order(f, base, froms, tos, 3);
-        let g = paper::check(g, comes_after(fault, slots, kept, base, ends, froms), 3);
-        let g = check_ranges(g, people, count, persons, opens, shuts);
-        let g = check_fits(
-            g, fault, people, kept, base, count, froms, tos, persons, opens, shuts,
-        );
-        let g = paper::check(g, figures_ok(people, priors, retired), 6);
-        let g = paper::check(
-            g,
-            lifted_ok(fault, people, gone, starts, ends, owners, priors, retired),
-            6,
-        );
-        let g = paper::check(g, units::settings_ok(settings), 7);
-        return or_later(g, later);
+    if f.number != 0 {
+        return f;
     }
-    f
+    let later = owners::recounted(
+        true, true, people, slots, units, starts, ends, avail, begins, owners, sets, minutes,
+        totals,
+    );
+    let fault = later.number;
+    let went = gone_units(slots, units, begins, frozen);
+    let gone = start_from(slots, units, begins, went);
+    let kept = slots.saturating_sub(gone);
+    let g = slots::check_order(f, base, froms, tos, 3);
+    let g = paper::check(g, comes_after(fault, slots, kept, base, ends, froms), 3);
+    let g = check_ranges(g, people, count, persons, opens, shuts);
+    let g = check_fits(
+        g, fault, people, kept, base, count, froms, tos, persons, opens, shuts,
+    );
+    let g = paper::check(g, figures_ok(people, priors, retired), 6);
+    let g = paper::check(
+        g,
+        lifted_ok(fault, people, gone, starts, ends, owners, priors, retired),
+        6,
+    );
+    let g = paper::check(g, units::settings_ok(settings), 7);
+    or_later(g, later)
 }

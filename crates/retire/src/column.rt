@@ -12,30 +12,16 @@ pub(crate) fn roll_owners(gone: usize, kept: usize, count: usize, owners: &mut [
     requires { (gone + kept ≤ length owners.old) × (count ≤ length owners.old) }
     ensures { owners.new ≡ rolled_column gone kept count (λ _. nobody) owners.old }
 {
-    let mut k: usize = 0;
-    while k < count {
-        if k < kept {
-            owners[k] = owners[gone + k];
-            k += 1;
-        } else {
-            owners[k] = paper::NOBODY;
-            k += 1;
-        }
-    }
-}
-
-// How many are left; none where more went than there were.
-pub(crate) fn left(before: usize, gone: usize) -> usize
-    ensures { result ≡ before - gone }
-{
-    if gone < before { before - gone } else { 0 }
+    let rest = kept.min(count);
+    owners.copy_within(gone..gone + rest, 0);
+    owners[rest..count].fill(paper::NOBODY);
 }
 
 // What stands against moving a published column: 1 or 2.
 fn column_refusal(before: usize, gone: usize, count: usize, column: &[u8]) -> Refusal
     ensures { result ≡ refusal_of (column_row before gone count column.now) }
 {
-    let kept = left(before, gone);
+    let kept = before.saturating_sub(gone);
     let f = paper::check_slots(paper::accepted(), before);
     let f = paper::check_slots(f, count);
     let f = paper::check(f, gone <= before, 1);
@@ -51,9 +37,9 @@ pub fn retire_column(before: usize, gone: usize, count: usize, column: &mut [u8]
         × (column.new ≡ retire_column before gone count column.old) }
 {
     let number = column_refusal(before, gone, count, column).number;
-    if number == 0 {
-        roll_owners(gone, before - gone, count, column);
-        return 0;
+    if number != 0 {
+        return number;
     }
-    number
+    roll_owners(gone, before - gone, count, column);
+    0
 }

@@ -9,6 +9,7 @@ use crate::Retiring;
 use crate::asking::retire_refusal;
 use crate::going::{gone_units, start_from};
 use crate::moving::{add_figures, move_owners, move_plan};
+use paper::Refusal;
 use units::Settings;
 
 // Retires the leading units of which every slot is frozen: the rest comes to the front, each person's minutes go to their priors and those
@@ -37,7 +38,7 @@ pub fn retire(
     totals: &mut [u64],
     priors: &mut [u32],
     retired: &mut [u64],
-) -> Retiring
+) -> Result<Retiring, Refusal>
     ensures { Ended (retire_of (held people slots units (columns starts.old ends.old avail.old begins.old frozen.old owners.old (derived sets.old minutes.old totals.old) priors.old retired.old)) (new settings base froms.now tos.now (ranges count
         persons.now opens.now shuts.now))) result (columns starts.new ends.new avail.new begins.new frozen.new owners.new (derived sets.new minutes.new totals.new) priors.new retired.new) }
 {
@@ -45,39 +46,39 @@ pub fn retire(
         people, slots, units, base, count, settings, froms, tos, persons, opens, shuts, starts,
         ends, avail, begins, frozen, owners, sets, minutes, totals, priors, retired,
     );
-    if f.number == 0 {
-        let went = gone_units(slots, units, begins, frozen);
-        if went == 0 {
-            return Retiring::Nothing;
-        }
-        if went == units {
-            return Retiring::Everything;
-        }
-        let gone = start_from(slots, units, begins, went);
-        add_figures(people, gone, starts, ends, owners, priors, retired);
-        let then = move_plan(
-            people, slots, units, base, count, settings, froms, tos, persons, opens, shuts, starts,
-            ends, avail, begins, frozen, went,
-        );
-        let held = then.slots;
-        move_owners(
-            people,
-            held,
-            starts,
-            ends,
-            avail,
-            owners,
-            sets,
-            minutes,
-            totals,
-            gone,
-            slots - gone,
-        );
-        return Retiring::Retired {
-            gone,
-            slots: held,
-            units: then.units,
-        };
+    if f.number != 0 {
+        return Err(f);
     }
-    Retiring::Refused(f)
+    let went = gone_units(slots, units, begins, frozen);
+    if went == 0 {
+        return Ok(Retiring::Nothing);
+    }
+    if went == units {
+        return Ok(Retiring::Everything);
+    }
+    let gone = start_from(slots, units, begins, went);
+    add_figures(people, gone, starts, ends, owners, priors, retired);
+    let then = move_plan(
+        people, slots, units, base, count, settings, froms, tos, persons, opens, shuts, starts,
+        ends, avail, begins, frozen, went,
+    );
+    let held = then.slots;
+    move_owners(
+        people,
+        held,
+        starts,
+        ends,
+        avail,
+        owners,
+        sets,
+        minutes,
+        totals,
+        gone,
+        slots - gone,
+    );
+    Ok(Retiring::Retired {
+        gone,
+        slots: held,
+        units: then.units,
+    })
 }

@@ -10,17 +10,7 @@ ghost use Rattle.retire.specs.Going.{prior_then, retired_then, priors_then, reti
 fn portion_of(owner: u8, person: u8, n: u32) -> u64
     ensures { (result ≡ portion owner person n) × (result ≤ 4294967295) }
 {
-    if owner == person {
-        return n as u64;
-    }
-    0
-}
-
-// A number of 32 bits as one of 64.
-fn wide(x: u32) -> u64
-    ensures { result ≡ x }
-{
-    x as u64
+    if owner == person { u64::from(n) } else { 0 }
 }
 
 // The minutes that a person, or nobody, owned of the first `gone` slots.
@@ -29,14 +19,12 @@ fn minutes_gone(gone: usize, starts: &[u32], ends: &[u32], owners: &[u8], person
     ensures { result ≡ worked (plan 0 gone starts.now ends.now) owners.now person }
 {
     let mut total: u64 = 0;
-    let mut k: usize = 0;
-    while k < gone {
+    for k in 0..gone {
         total += portion_of(
             owners::owner_at(owners, k),
             person,
             slots::minutes_at(starts, ends, k),
         );
-        k += 1;
     }
     total
 }
@@ -45,29 +33,22 @@ fn minutes_gone(gone: usize, starts: &[u32], ends: &[u32], owners: &[u8], person
 fn sum_ok(a: u64, b: u64) -> bool
     ensures { result ≡ leb (a + b) last_minute }
 {
-    let most = paper::LAST_MINUTE as u64;
-    if a <= most {
-        return b <= most - a;
-    }
-    false
+    a.saturating_add(b) <= u64::from(paper::LAST_MINUTE)
 }
 
 // The retired total; 0 where it isn't lent.
 fn total_of(retired: &[u64]) -> u64
     ensures { result ≡ entry retired.now 0 }
 {
-    if 0 < retired.len() { retired[0] } else { 0 }
+    retired.first().copied().unwrap_or(0)
 }
 
 // Whether nobody's prior minutes are above 100,000,000.
 fn priors_ok(people: usize, priors: &[u32]) -> bool
     ensures { result ≡ all people (λ p. leb (entry priors.now p) last_minute) }
 {
-    let mut p: usize = 0;
-    while p < people {
-        if slots::entry_of(priors, p) <= paper::LAST_MINUTE {
-            p += 1;
-        } else {
+    for p in 0..people {
+        if paper::LAST_MINUTE < slots::entry_of(priors, p) {
             return false;
         }
     }
@@ -86,14 +67,11 @@ fn priors_then_ok(
     requires { (people ≤ 32) × (gone ≤ 1024) }
     ensures { result ≡ all people (λ p. leb (prior_then (plan people gone starts.now ends.now) owners.now priors.now gone p) last_minute) }
 {
-    let mut p: usize = 0;
-    while p < people {
-        if sum_ok(
-            slots::entry_of(priors, p) as u64,
+    for p in 0..people {
+        if !sum_ok(
+            u64::from(slots::entry_of(priors, p)),
             minutes_gone(gone, starts, ends, owners, p as u8),
         ) {
-            p += 1;
-        } else {
             return false;
         }
     }
@@ -104,10 +82,7 @@ fn priors_then_ok(
 pub(crate) fn figures_ok(people: usize, priors: &[u32], retired: &[u64]) -> bool
     ensures { result ≡ all people (λ p. leb (entry priors.now p) last_minute) && leb (entry retired.now 0) last_minute }
 {
-    paper::both(
-        priors_ok(people, priors),
-        total_of(retired) <= paper::LAST_MINUTE as u64,
-    )
+    priors_ok(people, priors) && total_of(retired) <= u64::from(paper::LAST_MINUTE)
 }
 
 // And as they would be.
@@ -124,9 +99,9 @@ pub(crate) fn figures_then_ok(
     ensures { result ≡ all people (λ p. leb (prior_then (plan people gone starts.now ends.now) owners.now priors.now gone p) last_minute) && leb (retired_then (plan people gone starts.now ends.now)
         owners.now retired.now gone) last_minute }
 {
-    let priors_fit = priors_then_ok(people, gone, starts, ends, owners, priors);
     let uncovered = minutes_gone(gone, starts, ends, owners, paper::NOBODY);
-    paper::both(priors_fit, sum_ok(total_of(retired), uncovered))
+    priors_then_ok(people, gone, starts, ends, owners, priors)
+        && sum_ok(total_of(retired), uncovered)
 }
 
 // Each person's prior minutes, with what they owned of the slots that go.
@@ -143,12 +118,10 @@ pub(crate) fn add_priors(
     ensures { priors.new ≡ priors_then (plan people gone starts.now ends.now) owners.now
         priors.old gone }
 {
-    let mut p: usize = 0;
-    while p < people {
-        let had = wide(priors[p]);
+    for p in 0..people {
+        let had = u64::from(priors[p]);
         let more = minutes_gone(gone, starts, ends, owners, p as u8);
         priors[p] = (had + more) as u32;
-        p += 1;
     }
 }
 

@@ -8,7 +8,6 @@ ghost use Rattle.units.specs.Settings.{settings_ok};
 ghost use Rattle.units.specs.Starts.{unit_starts};
 ghost use Rattle.retire.specs.Inside.{NewRight, Written, WordsAre, number_or, is_number};
 
-use slotset::Number;
 use units::Settings;
 
 // New slots: the first `count` of both columns, or 1,025 where they are too many.
@@ -26,37 +25,26 @@ pub struct FreshUnits {
     pub count: usize,
 }
 
-// Columns and words with nothing in them yet.
-fn blank_minutes() -> [u32; 1024] {
-    [0u32; 1024]
-}
-
-fn blank_begins() -> [u16; 1024] {
-    [0u16; 1024]
-}
-
-fn blank_words() -> [u64; 512] {
-    [0u64; 512]
+// A column with nothing in it yet; what it holds is not told, so that no proof carries its entries.
+fn blank<T: Copy, const N: usize>(zero: T) -> [T; N] {
+    [zero; N]
 }
 
 // A number that was asked for, or another where it was refused.
-fn number_or(answer: Number, other: usize) -> usize
+fn number_or(answer: Result<usize, u8>, other: usize) -> usize
     ensures { result ≡ number_or answer other }
 {
     match answer {
-        Number::Is(n) => n,
-        Number::Refused(_) => other,
+        Ok(n) => n,
+        Err(_) => other,
     }
 }
 
 // Whether an answer is a number.
-fn is_number(answer: Number) -> bool
+fn is_number(answer: Result<usize, u8>) -> bool
     ensures { result ≡ is_number answer }
 {
-    match answer {
-        Number::Is(_) => true,
-        Number::Refused(_) => false,
-    }
+    matches!(answer, Ok(_))
 }
 
 // Whether ranges pass rule 4: merging them refuses nothing else.
@@ -71,9 +59,9 @@ pub(crate) fn ranges_ok(
         × (range_room_ok (ranges count persons.now opens.now shuts.now) ≡ true) }
     ensures { result ≡ ranges_ok people (ranges count persons.now opens.now shuts.now) }
 {
-    let mut whose = blank_begins();
-    let mut starts = blank_minutes();
-    let mut ends = blank_minutes();
+    let mut whose: [u16; 1024] = blank(0);
+    let mut starts: [u32; 1024] = blank(0);
+    let mut ends: [u32; 1024] = blank(0);
     is_number(slots::merged_ranges(
         people,
         count,
@@ -103,8 +91,8 @@ pub(crate) fn fresh_slots(
         × Written (atom_ends (is_cut people (ranges count persons.now opens.now shuts.now)) base
         froms.now tos.now) result.ends result.count }
 {
-    let mut starts = blank_minutes();
-    let mut ends = blank_minutes();
+    let mut starts: [u32; 1024] = blank(0);
+    let mut ends: [u32; 1024] = blank(0);
     if base == 0 {
         return FreshSlots {
             starts,
@@ -136,7 +124,7 @@ pub(crate) fn fresh_units(n: usize, settings: Settings, starts: &[u32], ends: &[
     requires { (n ≤ 1024) × (slots_ok n starts.now ends.now ≡ true) × (settings_ok settings ≡ true) }
     ensures { Written (unit_starts settings n starts.now) result.begins result.count }
 {
-    let mut begins = blank_begins();
+    let mut begins: [u16; 1024] = blank(0);
     let answer = units::unit_starts(n, settings, starts, ends, &mut begins);
     FreshUnits {
         begins,
@@ -159,7 +147,7 @@ pub(crate) fn fresh_words(
     ensures { WordsAre people n (ranges count persons.now opens.now shuts.now) starts.now
         ends.now result }
 {
-    let mut words = blank_words();
+    let mut words: [u64; 512] = blank(0);
     slots::availability(
         people, n, count, starts, ends, persons, opens, shuts, &mut words,
     );

@@ -16,11 +16,8 @@ fn is_frozen(frozen: &[u64], slot: usize) -> bool
 fn all_frozen(frozen: &[u64], a: usize, e: usize) -> bool
     ensures { result ≡ all_in a e (is_frozen frozen.now) }
 {
-    let mut k = a;
-    while k < e {
-        if is_frozen(frozen, k) {
-            k += 1;
-        } else {
+    for k in a..e {
+        if !is_frozen(frozen, k) {
             return false;
         }
     }
@@ -40,11 +37,8 @@ fn frozen_whole(slots: usize, units: usize, begins: &[u16], frozen: &[u64], unit
 pub(crate) fn gone_units(slots: usize, units: usize, begins: &[u16], frozen: &[u64]) -> usize
     ensures { result ≡ gone_units slots units begins.now frozen.now }
 {
-    let mut u: usize = 0;
-    while u < units {
-        if frozen_whole(slots, units, begins, frozen, u) {
-            u += 1;
-        } else {
+    for u in 0..units {
+        if !frozen_whole(slots, units, begins, frozen, u) {
             return u;
         }
     }
@@ -56,7 +50,8 @@ pub(crate) fn start_from(slots: usize, units: usize, begins: &[u16], unit: usize
     ensures { result ≡ start_from slots units begins.now unit }
 {
     if unit < units {
-        return units::start_of(begins, unit);
+        units::start_of(begins, unit)
+    } else {
+        slots
     }
-    slots
 }

@@ -13,8 +13,8 @@ mod rolling;
 pub use column::retire_column;
 pub use entry::retire;
 
-// What retiring comes to: how many slots went, how many slots and units there are then; nothing or everything would go, and nothing is
-// changed; or a refusal.
+// What retiring comes to: how many slots went, how many slots and units there are then; or nothing or everything would go, and nothing is
+// changed.
 #[derive(Clone, Copy)]
 pub enum Retiring {
     Retired {
@@ -24,5 +24,4 @@ pub enum Retiring {
     },
     Nothing,
     Everything,
-    Refused(paper::Refusal),
 }

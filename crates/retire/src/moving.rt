@@ -61,31 +61,26 @@ pub(crate) fn move_plan(
     let kept = slots - gone;
     let left = units - went;
     let fresh = fresh_slots(people, base, count, froms, tos, persons, opens, shuts);
-    let new_starts = fresh.starts;
-    let new_ends = fresh.ends;
     let n = fresh.count;
     let words = fresh_words(
         people,
         n,
         count,
-        &new_starts,
-        &new_ends,
+        &fresh.starts,
+        &fresh.ends,
         persons,
         opens,
         shuts,
     );
-    let some = fresh_units(n, settings, &new_starts, &new_ends);
-    let new_begins = some.begins;
-    let m = some.count;
-    roll_frozen(kept + n, gone, kept, frozen);
-    roll_rows(people, kept + n, gone, kept, &words, avail);
-    roll_begins(went, left, left + m, gone, kept, &new_begins, begins);
-    roll_minutes(gone, kept, kept + n, &new_starts, starts);
-    roll_minutes(gone, kept, kept + n, &new_ends, ends);
-    Counts {
-        slots: kept + n,
-        units: left + m,
-    }
+    let some = fresh_units(n, settings, &fresh.starts, &fresh.ends);
+    let slots = kept + n;
+    let units = left + some.count;
+    roll_frozen(slots, gone, kept, frozen);
+    roll_rows(people, slots, gone, kept, &words, avail);
+    roll_begins(went, left, units, gone, kept, &some.begins, begins);
+    roll_minutes(gone, kept, slots, &fresh.starts, starts);
+    roll_minutes(gone, kept, slots, &fresh.ends, ends);
+    Counts { slots, units }
 }
 
 // Owners, over slots that moved before; and what is derived from them, worked out afresh.

@@ -19,27 +19,16 @@ pub(crate) fn roll_minutes(
     requires { (gone + kept ≤ length column.old) × (count ≤ length column.old) × (count ≤ kept + length fresh.now) }
     ensures { column.new ≡ rolled_column gone kept count (entry fresh.now) column.old }
 {
-    let mut k: usize = 0;
-    while k < count {
-        if k < kept {
-            column[k] = column[gone + k];
-            k += 1;
-        } else {
-            column[k] = fresh[k - kept];
-            k += 1;
-        }
-    }
+    let rest = kept.min(count);
+    column.copy_within(gone..gone + rest, 0);
+    column[rest..count].copy_from_slice(&fresh[..count - rest]);
 }
 
 // A unit's start, counted from the first slot that is left.
 fn start_less(start: u16, gone: usize) -> u16
     ensures { result ≡ start - gone }
 {
-    let wide = start as usize;
-    if gone < wide {
-        return (wide - gone) as u16;
-    }
-    0
+    usize::from(start).saturating_sub(gone) as u16
 }
 
 // A new unit's start, behind the slots that are left.
@@ -47,7 +36,7 @@ fn start_more(start: u16, kept: usize) -> u16
     requires { (start ≤ 1024) × (kept ≤ 1024) }
     ensures { result ≡ kept + start }
 {
-    (kept + start as usize) as u16
+    (kept + usize::from(start)) as u16
 }
 
 // Unit starts: those left count `less`, the slots that went; new ones `more`, the slots that are left.
@@ -65,14 +54,11 @@ pub(crate) fn roll_begins(
     ensures { begins.new
         ≡ over (begin_then gone kept less more begins.old fresh.now) count begins.old }
 {
-    let mut k: usize = 0;
-    while k < count {
+    for k in 0..count {
         if k < kept {
             begins[k] = start_less(begins[gone + k], less);
-            k += 1;
         } else {
             begins[k] = start_more(fresh[k - kept], more);
-            k += 1;
         }
     }
 }
@@ -83,9 +69,10 @@ fn holds_then(gone: usize, kept: usize, fresh: &[u64], words: &[u64], person: u8
     ensures { result ≡ eqb (rolled gone kept (slot words.now (16 * person)) (slot fresh.now (16 * person)) k) 1 }
 {
     if k < kept {
-        return bit::holds(words, person, gone + k);
+        bit::holds(words, person, gone + k)
+    } else {
+        bit::holds(fresh, person, k - kept)
     }
-    bit::holds(fresh, person, k - kept)
 }
 
 // One person's set, slot by slot: each is read before it is written over.
@@ -103,11 +90,9 @@ pub(crate) fn roll_row(
     ensures { words.new ≡ put_slots (rolled gone kept (slot words.old (16 * person)) (slot fresh.now
         (16 * person))) (16 * person) 0 count words.old }
 {
-    let mut k: usize = 0;
-    while k < count {
+    for k in 0..count {
         let want = holds_then(gone, kept, fresh, words, person as u8, k);
         row::put_stretch(people, count, words, person, k, k + 1, want);
-        k += 1;
     }
 }
 
@@ -125,9 +110,7 @@ pub(crate) fn roll_rows(
     ensures { words.new ≡ rows (λ p. rolled gone kept (slot words.old (16 * p)) (slot fresh.now
         (16 * p))) count people words.old }
 {
-    let mut person: usize = 0;
-    while person < people {
+    for person in 0..people {
         roll_row(people, count, gone, kept, fresh, words, person);
-        person += 1;
     }
 }

@@ -38,17 +38,17 @@ pub stays : (ts : List Bool) (n : ℕ) (m : Move) (k : ℕ) → get_or ts k fals
 stays ts n m k e = sym (ap (λ (b : Bool). cond b (Stay n) m) (any_at ts k e))
 
 -- tests asked one after the other: one of two; one of some, or one test more
-pub ask-two : (a b : Bool) {r p q : Bool} → r ≡ p || q → p ≡ a → q ≡ b → r ≡ any_of (a ∷ b ∷ [])
+pub ask-two : (a b : Bool) {p q : Bool} → p ≡ a → q ≡ b → p || q ≡ any_of (a ∷ b ∷ [])
 unfolding any_of
-ask-two a b e f g = e ∙ ap₂ ◌||◌ f g ∙ ap (λ (x : Bool). a || x) (sym (or-false b))
+ask-two a b f g = ap₂ ◌||◌ f g ∙ ap (λ (x : Bool). a || x) (sym (or-false b))
 
 any-more : (ts : List Bool) (t : Bool) → any_of ts || t ≡ any_of (ts ++ (t ∷ []))
 unfolding any_of
 any-more [] t = sym (or-false t)
 any-more (u ∷ ts) t = or_assoc u (any_of ts) t ∙ ap (λ (x : Bool). u || x) (any-more ts t)
 
-pub ask-more : (ts : List Bool) (t : Bool) {r p q : Bool} → r ≡ p || q → p ≡ any_of ts → q ≡ t → r ≡ any_of (ts ++ (t ∷ []))
-ask-more ts t e f g = e ∙ ap₂ ◌||◌ f g ∙ any-more ts t
+pub ask-more : (ts : List Bool) (t : Bool) {p q : Bool} → p ≡ any_of ts → q ≡ t → p || q ≡ any_of (ts ++ (t ∷ []))
+ask-more ts t f g = ap₂ ◌||◌ f g ∙ any-more ts t
 
 -- one of them holds, so it stays
 pub stays_by : (ts : List Bool) (n : ℕ) (m : Move) → any_of ts ≡ true → Stay n ≡ stay_if ts n m

@@ -1,4 +1,5 @@
 -- A block of draws beside recorded answers: its play up to the first difference, and the outcome. Assumes nothing.
+use Rattle.std.specs.Prelude.{Ok, Err}
 use mathlib.Core.Path.{◌≡◌, refl, sym, ap, ◌∙◌, subst}
 use mathlib.Core.Logic.{⊎_elim}
 use mathlib.Core.Bool.{Bool, true, false, cond, ◌&&◌}
@@ -215,7 +216,7 @@ module _ (P : Plan) (avail : List ℕ) (units : ℕ) (begins frozen : List ℕ) 
     (D : Derived) where
   -- a recorded answer above 2: 13, whatever else is lent
   pub outcome-thirteen : all n (answer_ok rs) ≡ false → Replays (replayed_list P avail units begins frozen n enough ds rs o D)
-      (variant.Refused (test_refusal (test 13 false))) o D
+      (Err (test_refusal (test 13 false))) o D
   unfolding replayed_list replay_row refusal_of unless
   outcome-thirteen k = simp k (record { answer = refl; owners = refl; derived = refl })
 
@@ -226,20 +227,20 @@ module _ (P : Plan) (avail : List ℕ) (units : ℕ) (begins frozen : List ℕ) 
     same-refusal = simp k e
 
     pub outcome-refused : (f.number ≡ 0 → ⊥)
-        → Replays (replayed_list P avail units begins frozen n enough ds rs o D) (variant.Refused f) o D
+        → Replays (replayed_list P avail units begins frozen n enough ds rs o D) (Err f) o D
     unfolding replayed_list
     outcome-refused z =
         let g = refusal_of (replay_row P avail units begins frozen n enough rs o D) in
         let y : g.number ≡ 0 → ⊥ = λ q. z (ap (λ (h : Refusal). h.number) same-refusal ∙ q) in
         record {
-          answer = ap variant.Refused same-refusal ∙ sym (kept _ _ _ y);
+          answer = ap Err same-refusal ∙ sym (kept _ _ _ y);
           owners = sym (kept _ _ _ y);
           derived = sym (kept _ _ _ y);
         }
 
     pub outcome-ran : f.number ≡ 0 → (p : ℕ) (o' : List ℕ) (D' : Derived)
         → RanOn P (board_of P.people P.slots units avail begins frozen) o D ds rs p o' D'
-        → Replays (replayed_list P avail units begins frozen n enough ds rs o D) (agrees_up_to n p) o' D'
+        → Replays (replayed_list P avail units begins frozen n enough ds rs o D) (Ok (agrees_up_to n p)) o' D'
     unfolding replayed_list block_played
     outcome-ran z p o' D' W =
         let B = board_of P.people P.slots units avail begins frozen in
@@ -248,7 +249,7 @@ module _ (P : Plan) (avail : List ℕ) (units : ℕ) (begins frozen : List ℕ) 
         let q : o' ≡ owners_after B o (take (suc (agreeing B o ds rs)) ds) =
         W.owners ∙ ap (λ (i : ℕ). owners_after B o (take (suc i) ds)) W.place in
         record {
-          answer = ap (agrees_up_to n) W.place ∙ sym (worked _ _ _ y);
+          answer = ap (λ (i : ℕ). Ok (agrees_up_to n i)) W.place ∙ sym (worked _ _ _ y);
           owners = q ∙ sym (worked _ _ _ y);
           derived = W.derived ∙ ap (λ (l : List ℕ). afresh P l D) q ∙ sym (worked _ _ _ y);
         }
@@ -258,23 +259,23 @@ module _ (P : Plan) (avail : List ℕ) (units : ℕ) (begins frozen : List ℕ) 
 module _ (P : Plan) (avail : List ℕ) (units : ℕ) (begins frozen : List ℕ) (n : ℕ) (enough : Bool) (rs o : List ℕ) (D : Derived) (b : Begun)
     (k : all n (answer_ok rs) ≡ true) (w : Begins P avail units begins frozen n enough o D rs b) (ds : List Draw) where
   pub block_refused : (b.refusal.number ≡ 0 → ⊥)
-      → Replays (replayed_list P avail units begins frozen n enough ds rs o D) (variant.Refused b.refusal) o D
+      → Replays (replayed_list P avail units begins frozen n enough ds rs o D) (Err b.refusal) o D
   block_refused = outcome-refused P avail units begins frozen n enough ds rs o D k b.refusal w.refusal
 
   module _ (z : b.refusal.number ≡ 0) (p : ℕ) (o' : List ℕ) (D' : Derived)
       (W : RanOn P (ready P.people P.slots units begins b.fits b.flags) o D ds rs p o' D') where
-    block-ran : Replays (replayed_list P avail units begins frozen n enough ds rs o D) (agrees_up_to n p) o' D'
+    block-ran : Replays (replayed_list P avail units begins frozen n enough ds rs o D) (Ok (agrees_up_to n p)) o' D'
     block-ran =
         outcome-ran P avail units begins frozen n enough ds rs o D k b.refusal w.refusal z p o' D'
         (subst (λ (B : Board). RanOn P B o D ds rs p o' D')
         (board-is P.people P.slots units avail begins frozen b.fits b.flags (w.fits z) (w.flags z)) W)
 
-    pub block-differs : p < n → Replays (replayed_list P avail units begins frozen n enough ds rs o D) (variant.Differs p) o' D'
+    pub block-differs : p < n → Replays (replayed_list P avail units begins frozen n enough ds rs o D) (Ok (variant.Differs p)) o' D'
     block-differs h =
-        subst (λ (r : Replayed). Replays (replayed_list P avail units begins frozen n enough ds rs o D) r o' D') (sym (said-differs n p h))
+        subst (λ (r : Replayed). Replays (replayed_list P avail units begins frozen n enough ds rs o D) (Ok r) o' D') (sym (said-differs n p h))
         block-ran
 
-    pub block-agrees : n ≤ p → Replays (replayed_list P avail units begins frozen n enough ds rs o D) variant.Agrees o' D'
+    pub block-agrees : n ≤ p → Replays (replayed_list P avail units begins frozen n enough ds rs o D) (Ok variant.Agrees) o' D'
     block-agrees h =
-        subst (λ (r : Replayed). Replays (replayed_list P avail units begins frozen n enough ds rs o D) r o' D') (sym (said-agrees n p h))
+        subst (λ (r : Replayed). Replays (replayed_list P avail units begins frozen n enough ds rs o D) (Ok r) o' D') (sym (said-agrees n p h))
         block-ran

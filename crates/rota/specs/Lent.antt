@@ -1,7 +1,5 @@
 -- The board that lent units, availability and frozen flags make. Assumes nothing.
-use Rattle.std.specs.Prelude.{◌≡◌, Bool, cond, ◌&&◌, List, ℕ, ltb}
-use Rattle.slotset.specs.declared.Found.{Found}
-use Rattle.slotset.specs.declared.Found.TheVariants as found
+use Rattle.std.specs.Prelude.{◌≡◌, Bool, cond, ◌&&◌, List, ℕ, ltb, Option, Some, None, Result, Ok, Err}
 use Rattle.units.specs.Units.{unit_start, unit_end}
 use Rattle.units.specs.Domains.{able, clear, unit_frozen}
 use Rattle.rota.specs.Board.{Board, board_with}
@@ -27,10 +25,10 @@ unfoldable pub mark_of : List ℕ → ℕ → ℕ → ℕ
 mark_of frozen a e = cond (clear frozen a e) 0 1
 
 -- the same by a search for a frozen slot of it
-abbrev pub mark_found : Found → ℕ
-mark_found (found.At i) = 1
-mark_found found.Nothing = 0
-mark_found (found.Refused n) = 1
+abbrev pub mark_found : Result (Option ℕ) ℕ → ℕ
+mark_found (Ok (Some i)) = 1
+mark_found (Ok None) = 0
+mark_found (Err n) = 1
 
 -- the masks and the marks are those of the definitions
 pub record FitsRight (people slots units : ℕ) (avail begins fits : List ℕ) : Type 0 where

@@ -1,6 +1,7 @@
 -- A replay of one recorded block: its draws are played in order, up to and with the first that is answered otherwise. Assumes nothing.
-use Rattle.std.specs.Prelude.{◌≡◌, Bool, cond, List, ◌∷◌, ℕ, suc, eqb, ltb, leb, length, get_or, take}
+use Rattle.std.specs.Prelude.{◌≡◌, Bool, cond, List, ◌∷◌, ℕ, suc, eqb, ltb, leb, length, get_or, take, Result, Ok, Err}
 use Rattle.paper.specs.Limits.{Test, test}
+use Rattle.paper.specs.declared.Refusal.{Refusal}
 use Rattle.paper.specs.Rows.{unless, refusal_of}
 use Rattle.paper.specs.Count.{all}
 use Rattle.owners.specs.Derived.{Plan, Derived, afresh}
@@ -40,7 +41,7 @@ replay_row P avail units begins frozen n enough rs o D =
 -- ---- the outcome: what is answered, and the lent columns at exit
 
 pub record Outcome : Type 0 where
-  pub answer : Replayed
+  pub answer : Result Replayed Refusal
   pub owners : List ℕ
   pub derived : Derived
 
@@ -55,7 +56,7 @@ replayed_list P avail units begins frozen n enough ds rs o D =
     let f = refusal_of (replay_row P avail units begins frozen n enough rs o D) in
     let o' = owners_after B o (block_played B o ds rs) in
     record {
-      answer = unless f.number (variant.Refused f) (agrees_up_to n (agreeing B o ds rs));
+      answer = unless f.number (Err f) (Ok (agrees_up_to n (agreeing B o ds rs)));
       owners = unless f.number o o';
       derived = unless f.number D (afresh P o' D);
     }
@@ -66,7 +67,7 @@ replayed P avail units begins frozen n ks fs ss rs o D =
     replayed_list P avail units begins frozen n (columns_enough n ks fs ss) (draws_of ks fs ss n) rs o D
 
 -- what is answered and what is left are those of the outcome
-pub record Replays (y : Outcome) (r : Replayed) (o : List ℕ) (D : Derived) : Type 0 where
+pub record Replays (y : Outcome) (r : Result Replayed Refusal) (o : List ℕ) (D : Derived) : Type 0 where
   pub answer : r ≡ y.answer
   pub owners : o ≡ y.owners
   pub derived : D ≡ y.derived

@@ -59,14 +59,12 @@ pub fn play(
     let fits = b.fits;
     let flags = b.flags;
     let n = b.todo;
-    let mut i: usize = 0;
-    while i < n {
+    for i in 0..n {
         let d = draws[i];
         step_at(
             people, slots, units, starts, ends, begins, &fits, &flags, owners, sets, minutes,
             totals, d.draw, d.first, d.second, i, answers,
         );
-        i = i + 1;
     }
     b.refusal
 }

@@ -1,5 +1,5 @@
 // The five moves: each judges a draw and says what to do; nothing is written here.
-ghost use Rattle.std.specs.Prelude.{◌≡◌, true, not, ◌&&◌, ◌||◌, suc, ◌+◌, ◌-◌, ◌<◌, ◌≤◌, min, eqb, length, get_or};
+ghost use Rattle.std.specs.Prelude.{◌≡◌, true, not, ◌&&◌, ◌||◌, suc, ◌+◌, ◌-◌, ◌<◌, ◌≤◌, eqb, length, get_or};
 ghost use Rattle.paper.specs.Count.{all, all_in, among};
 ghost use Rattle.units.specs.Units.{unit_start, unit_end};
 ghost use Rattle.rota.specs.Board.{run_start, run_end};
@@ -22,22 +22,14 @@ fn owner_of(begins: &[u16], owners: &[u8], unit: usize) -> u8
 fn is_frozen(flags: &[u8], unit: usize) -> bool
     ensures { result ≡ frozen_by flags.now unit }
 {
-    if unit < flags.len() {
-        flags[unit] == 1
-    } else {
-        false
-    }
+    unit < flags.len() && flags[unit] == 1
 }
 
 // Whether a person stands in a mask.
 pub(crate) fn in_mask(mask: u32, person: usize) -> bool
     ensures { result ≡ in_mask mask person }
 {
-    if person < 32 {
-        (mask >> person) % 2 == 1
-    } else {
-        false
-    }
+    person < 32 && (mask >> person) % 2 == 1
 }
 
 // The people who fit a unit.
@@ -62,37 +54,30 @@ fn owner_at(begins: &[u16], owners: &[u8], unit: usize) -> u8
     owners[begins[unit] as usize]
 }
 
-// The first unit of a unit's run: the n units before it have its owner. The loop changes n alone, and the answer is worked out from it.
+// The first unit of a unit's run: the units from it up to this one have its owner.
 fn run_start(begins: &[u16], owners: &[u8], unit: usize) -> usize
     requires { OwnerRoom (suc unit) begins.now owners.now }
     ensures { result ≡ run_start (λ u. get_or owners.now (unit_start begins.now u) 0) unit }
 {
     let owner = owner_at(begins, owners, unit);
-    let mut n: usize = 0;
-    while n < unit {
-        if owner_at(begins, owners, unit - n - 1) == owner {
-            n += 1;
-        } else {
-            return unit - n;
+    for u in (0..unit).rev() {
+        if owner_at(begins, owners, u) != owner {
+            return u + 1;
         }
     }
     0
 }
 
-// The last unit of a unit's run: the n units after it have its owner.
+// The last unit of a unit's run: the units after this one up to it have its owner.
 fn run_end(units: usize, begins: &[u16], owners: &[u8], unit: usize) -> usize
     requires unit_lt_units { unit < units }
     requires owner_room { OwnerRoom units begins.now owners.now }
     ensures { result ≡ run_end units (λ u. get_or owners.now (unit_start begins.now u) 0) unit }
 {
     let owner = owner_at(begins, owners, unit);
-    let after = units - unit - 1;
-    let mut n: usize = 0;
-    while n < after {
-        if owner_at(begins, owners, unit + n + 1) == owner {
-            n += 1;
-        } else {
-            return unit + n;
+    for u in unit + 1..units {
+        if owner_at(begins, owners, u) != owner {
+            return u - 1;
         }
     }
     units - 1
@@ -104,13 +89,9 @@ fn is_movable(flags: &[u8], a: usize, e: usize) -> bool
     ensures { result ≡ all_in a e (λ u. not (frozen_by flags.now u)) }
 {
     let mut movable = true;
-    let mut u = a;
-    while u < e {
+    for u in a..e {
         if flags[u] == 1 {
             movable = false;
-            u += 1;
-        } else {
-            u += 1;
         }
     }
     movable
@@ -122,10 +103,8 @@ fn cover_of(fits: &[u32], a: usize, e: usize) -> u32
     ensures { Cover fits.now a e result }
 {
     let mut mask = !0u32;
-    let mut u = a;
-    while u < e {
-        mask = mask & fits[u];
-        u += 1;
+    for u in a..e {
+        mask &= fits[u];
     }
     mask
 }
@@ -136,13 +115,6 @@ fn fits_all(fits: &[u32], a: usize, e: usize, person: u8) -> bool
     ensures { result ≡ all_in a e (fits_by fits.now person) }
 {
     in_mask(cover_of(fits, a, e), person as usize)
-}
-
-// The lower of two numbers.
-pub(crate) fn lower_of(a: usize, b: usize) -> usize
-    ensures { result ≡ min a b }
-{
-    if a < b { a } else { b }
 }
 
 // k where the first k people all stand in a mask, else 0: those need not be counted one by one.
@@ -165,18 +137,14 @@ fn nth_of(mask: u32, people: usize, skip: u8, nth: usize) -> Pick
     requires { people ≤ 32 }
     ensures { result ≡ picked (among (λ p. not (eqb p skip) && in_mask mask p) people) nth }
 {
-    let mut p = all_first(mask, people, lower_of(nth, skip as usize));
-    let mut seen = p;
-    while p < people {
+    let from = all_first(mask, people, nth.min(skip as usize));
+    let mut seen = from;
+    for p in from..people {
         if is_other(mask, skip, p) {
             if seen == nth {
                 return Pick::Person(p as u8);
-            } else {
-                seen += 1;
-                p += 1;
             }
-        } else {
-            p += 1;
+            seen += 1;
         }
     }
     if seen == 0 {
@@ -190,10 +158,7 @@ fn is_other(mask: u32, skip: u8, person: usize) -> bool
     requires { person < 32 }
     ensures { result ≡ not (eqb person skip) && in_mask mask person }
 {
-    if person == skip as usize {
-        return false;
-    }
-    (mask >> person) % 2 == 1
+    person != skip as usize && (mask >> person) % 2 == 1
 }
 
 // Units a to b, both included, to a person.
@@ -263,13 +228,6 @@ fn reassign(
     }
 }
 
-// Either of two tests.
-fn either(a: bool, b: bool) -> bool
-    ensures { result ≡ a || b }
-{
-    if a { true } else { b }
-}
-
 // Whether two units keep their owners.
 fn swap_stays(
     people: usize,
@@ -286,13 +244,15 @@ fn swap_stays(
 {
     let left = owner_of(begins, owners, first);
     let right = owner_of(begins, owners, second);
-    let stays = either(is_frozen(flags, first), is_frozen(flags, second));
-    let stays = either(stays, first == second);
-    let stays = either(stays, left == paper::NOBODY);
-    let stays = either(stays, right == paper::NOBODY);
-    let stays = either(stays, left == right);
-    let stays = either(stays, !fits_unit(fits, right, first));
-    either(stays, !fits_unit(fits, left, second))
+    // `|` has no branch, so the proof has one path
+    is_frozen(flags, first)
+        | is_frozen(flags, second)
+        | (first == second)
+        | (left == paper::NOBODY)
+        | (right == paper::NOBODY)
+        | (left == right)
+        | !fits_unit(fits, right, first)
+        | !fits_unit(fits, left, second)
 }
 
 // 35 to 59: two units change owners.
@@ -421,16 +381,8 @@ fn runs_fit(
     requires e_in_bounds { (e ≤ length fits.now) × (g ≤ length fits.now) × (e ≤ length flags.now) × (g ≤ length flags.now) }
     ensures { result ≡ runs_fit fits.now flags.now a e to c g to2 }
 {
-    if is_movable(flags, a, e) {
-        if is_movable(flags, c, g) {
-            if fits_all(fits, a, e, to) {
-                return fits_all(fits, c, g, to2);
-            }
-            return false;
-        }
-        return false;
-    }
-    false
+    is_movable(flags, a, e)
+        && (is_movable(flags, c, g) && (fits_all(fits, a, e, to) && fits_all(fits, c, g, to2)))
 }
 
 // Second 1: the owner of a run that starts at unit a gets the unit before it.

@@ -19,7 +19,6 @@ use crate::assignment::hand_over;
 use crate::checks::{columns_enough, play_room_ok};
 use crate::moves::decide;
 use paper::Refusal;
-use slotset::Found;
 
 // A play that has begun: its refusal, how many draws are to be played, who fits which unit, and which units are frozen.
 #[derive(Clone, Copy)]
@@ -31,13 +30,13 @@ pub(crate) struct Begun {
 }
 
 // The mark of a unit, by the search for a frozen slot of it: 0 where it found none.
-fn mark_found(f: Found) -> u8
+fn mark_found(f: Result<Option<usize>, u8>) -> u8
     ensures { result ≡ mark_found f }
 {
     match f {
-        Found::At(_) => 1,
-        Found::Nothing => 0,
-        Found::Refused(_) => 1,
+        Ok(Some(_)) => 1,
+        Ok(None) => 0,
+        Err(_) => 1,
     }
 }
 
@@ -56,12 +55,10 @@ fn frozen_of(slots: usize, units: usize, begins: &[u16], frozen: &[u64]) -> [u8;
     ensures { FrozenRight slots units begins.now frozen.now result }
 {
     let mut flags = [0u8; 1024];
-    let mut u: usize = 0;
-    while u < units {
+    for u in 0..units {
         let a = units::start_of(begins, u);
         let e = units::unit_end(slots, units, begins, u);
         flags[u] = mark_of(frozen, a, e);
-        u += 1;
     }
     flags
 }
@@ -178,13 +175,11 @@ fn run(
     requires units_in_bounds { (units ≤ length begins.now) × (units ≤ length fits.now) × (units ≤ length flags.now) }
     ensures { Ran (plan people slots starts.now ends.now) (ready people slots units begins.now fits.now flags.now) owners.old (derived sets.old minutes.old totals.old) answers.old (draws_of draws.now firsts.now seconds.now count) owners.new (derived sets.new minutes.new totals.new) answers.new }
 {
-    let mut i: usize = 0;
-    while i < count {
+    for i in 0..count {
         step_at(
             people, slots, units, starts, ends, begins, fits, flags, owners, sets, minutes, totals,
             draws[i], firsts[i], seconds[i], i, answers,
         );
-        i += 1;
     }
 }
 

@@ -10,28 +10,23 @@ ghost use Rattle.rota.specs.Stepped.{DrawRoom};
 ghost use Rattle.rota.specs.Replays.{answer_ok, replayed, Replays, RanOn};
 
 use crate::checks::columns_enough;
-use crate::moves::lower_of;
 use crate::play::{begin, step};
 use paper::Refusal;
 
-// What a block comes to: each draw is answered as recorded; or the first one that isn't, which is played; or a refusal.
+// What a block comes to: each draw is answered as recorded; or the first one that isn't, which is played.
 #[derive(Clone, Copy)]
 pub enum Replayed {
     Agrees,
     Differs(usize),
-    Refused(Refusal),
 }
 
 // Whether the first recorded answers, as many as are lent of count, are 0, 1 or 2.
 fn answers_ok(count: usize, recorded: &[u16]) -> bool
     ensures { result ≡ all count (answer_ok recorded.now) }
 {
-    let n = lower_of(count, recorded.len());
-    let mut i: usize = 0;
-    while i < n {
-        if recorded[i] <= 2 {
-            i += 1;
-        } else {
+    let n = count.min(recorded.len());
+    for i in 0..n {
+        if recorded[i] > 2 {
             return false;
         }
     }
@@ -66,16 +61,13 @@ fn run_on(
     requires units_in_bounds { (units ≤ length begins.now) × (units ≤ length fits.now) × (units ≤ length flags.now) }
     ensures { RanOn (plan people slots starts.now ends.now) (ready people slots units begins.now fits.now flags.now) owners.old (derived sets.old minutes.old totals.old) (draws_of draws.now firsts.now seconds.now count) recorded.now result owners.new (derived sets.new minutes.new totals.new) }
 {
-    let mut i: usize = 0;
-    while i < count {
+    for i in 0..count {
         let due = recorded[i];
         let answer = step(
             people, slots, units, starts, ends, begins, fits, flags, owners, sets, minutes, totals,
             draws[i], firsts[i], seconds[i],
         );
-        if answer as u16 == due {
-            i += 1;
-        } else {
+        if answer as u16 != due {
             return i;
         }
     }
@@ -102,7 +94,7 @@ pub fn replay_block(
     sets: &mut [u64],
     minutes: &mut [u64],
     totals: &mut [u64],
-) -> Replayed
+) -> Result<Replayed, Refusal>
     ensures { Replays (replayed (plan people slots starts.now ends.now) avail.now units begins.now frozen.now count draws.now firsts.now seconds.now recorded.now owners.old (derived sets.old minutes.old totals.old)) result owners.new (derived sets.new minutes.new totals.new) }
 {
     if answers_ok(count, recorded) {
@@ -135,13 +127,13 @@ pub fn replay_block(
                 seconds, recorded, owners, sets, minutes, totals,
             );
             if place < count {
-                return Replayed::Differs(place);
+                return Ok(Replayed::Differs(place));
             }
-            return Replayed::Agrees;
+            return Ok(Replayed::Agrees);
         }
-        return Replayed::Refused(refusal);
+        return Err(refusal);
     }
-    Replayed::Refused(Refusal {
+    Err(Refusal {
         number: 13,
         part: 0,
         place: 0,

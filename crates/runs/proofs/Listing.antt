@@ -1,4 +1,5 @@
 -- The list of all runs, filled run by run: what the reader gives is the next of the list. Assumes nothing.
+use Rattle.std.specs.Prelude.{Option, Some, None, Result, Ok, Err}
 use mathlib.Core.Path.{◌≡◌, refl, sym, ap, ap₂, ◌∙◌}
 use mathlib.Core.List.{List, [], ◌∷◌}
 use mathlib.Core.Logic.{◌⊎◌, inl, inr, ⊎_elim}
@@ -9,13 +10,10 @@ use borrow.Author.Tests.{leb-true}
 use lib.ListN.{length, set, get_or, length-set}
 use lib.Seq.{get_or-set_same, get_or-set_other}
 use Rattle.paper.specs.Limits.{number_of}
-use Rattle.paper.specs.Rows.{unless}
+use Rattle.paper.specs.Rows.{unless, answer_as}
 use Rattle.paper.proofs.Rows.{passed, all_pass}
-use Rattle.slotset.specs.declared.Found.{Found}
-use Rattle.slotset.specs.declared.Found.TheVariants as found
 use Rattle.slotset.specs.declared.Cursor.{Cursor}
 use Rattle.slotset.specs.declared.NextRun.{NextRun}
-use Rattle.slotset.specs.declared.NextRun.TheVariants.{Span, Done, Refused}
 use Rattle.slotset.specs.Slots.{Bits}
 use Rattle.slotset.specs.Search.{First, next_set}
 use Rattle.slotset.specs.Runs.{Ends, when_found, last_around, runs, ends_of_runs}
@@ -34,25 +32,30 @@ list-says ws people person len n m z =
 
 -- ---- what an answer of the reader tells
 
-abbrev first_in : NextRun → ℕ
-first_in (Span a b c) = a
-first_in Done = 0
-first_in (Refused n) = 0
+abbrev first_in : Option NextRun → ℕ
+first_in (Some r) = r.first
+first_in None = 0
 
-abbrev last_in : NextRun → ℕ
-last_in (Span a b c) = b
-last_in Done = 0
-last_in (Refused n) = 0
+abbrev last_in : Option NextRun → ℕ
+last_in (Some r) = r.last
+last_in None = 0
 
-abbrev next_in : NextRun → ℕ
-next_in (Span a b c) = c.at
-next_in Done = 0
-next_in (Refused n) = 0
+abbrev next_in : Option NextRun → ℕ
+next_in (Some r) = r.next.at
+next_in None = 0
 
-abbrev kind_of : NextRun → ℕ
-kind_of (Span a b c) = 0
-kind_of Done = 1
-kind_of (Refused n) = 2
+abbrev kind_of : Option NextRun → ℕ
+kind_of (Some r) = 0
+kind_of None = 1
+
+-- what is answered where nothing is refused, and whether something is
+abbrev given_in : Result (Option NextRun) ℕ → Option NextRun
+given_in (Ok x) = x
+given_in (Err n) = None
+
+abbrev refusal_in : Result (Option NextRun) ℕ → ℕ
+refusal_in (Ok x) = 0
+refusal_in (Err n) = 1
 
 -- the run given is the head of the list of runs, and the cursor one past it
 pub record Given (f : ℕ → ℕ) (len m at first last next : ℕ) : Type 0 where
@@ -63,11 +66,12 @@ pub record Given (f : ℕ → ℕ) (len m at first last next : ℕ) : Type 0 whe
   pub head : runs (suc m) f len at ≡ record { first = first; last = last } ∷ runs m f len next
 
 module _ (f : ℕ → ℕ) (bits : Bits f) (len m at : ℕ) where
-  given_by : (r : Found) → First 1 f len at r → (first last : ℕ) (next : Cursor) → run_step f len r ≡ Span first last next
+  given_by : (r : Option ℕ) → First 1 f len at r → (first last : ℕ) (next : Cursor)
+      → run_step f len r ≡ Some (record { first = first; last = last; next = next })
       → (at ≤ first) × ((first ≤ last) × ((last < len) × ((next.at ≡ last + 1)
       × (when_found r (λ lo. record { first = lo; last = last_around 1 f len lo } ∷ runs m f len (last_around 1 f len lo + 1))
       ≡ record { first = first; last = last } ∷ runs m f len next.at))))
-  given_by (found.At lo) w first last next e =
+  given_by (Some lo) w first last next e =
       let r = run-around f bits len lo (w.1, w.2) in
       let a : lo ≡ first = ap first_in e in
       let b : last_around 1 f len lo ≡ last = ap last_in e in
@@ -85,13 +89,13 @@ module _ (f : ℕ → ℕ) (bits : Bits f) (len m at : ℕ) where
           ),
         ),
       )
-  given_by found.Nothing w first last next e = let z : ◌≡◌ {A = ℕ} 1 0 = ap kind_of e in let no : ⊥ = omega (arith, z) in absurd no
-  given_by (found.Refused n) w first last next e = absurd w
+  given_by None w first last next e = let z : ◌≡◌ {A = ℕ} 1 0 = ap kind_of e in let no : ⊥ = omega (arith, z) in absurd no
 
-  pub given : (first last : ℕ) (next : Cursor) → next_run_as 0 f len at ≡ Span first last next → Given f len m at first last next.at
-  unfolding next_run_as unless runs
+  pub given : (first last : ℕ) (next : Cursor) → next_run_as 0 f len at ≡ Ok (Some (record { first = first; last = last; next = next }))
+      → Given f len m at first last next.at
+  unfolding answer_as unless runs
   given first last next e =
-      let g = given_by (next_set f len at) (next-is 1 f len at) first last next e in
+      let g = given_by (next_set f len at) (next-is 1 f len at) first last next (ap given_in e) in
       record { from = g.0; to = g.1.0; fits = g.1.1.0; past = g.1.1.1.0; head = g.1.1.1.1 }
 
 -- ---- the columns while they are filled: n runs are listed, and the reader stands at `at`
@@ -122,7 +126,7 @@ module _ (f : ℕ → ℕ) (bits : Bits f) (len : ℕ) (fs ls : List ℕ) where
       }
 
   module _ (n at : ℕ) (fs' ls' : List ℕ) (l : Listing f len fs ls n at fs' ls') where
-    module _ (h : at < len) (first last : ℕ) (next : Cursor) (e : next_run_as 0 f len at ≡ Span first last next) where
+    module _ (h : at < len) (first last : ℕ) (next : Cursor) (e : next_run_as 0 f len at ≡ Ok (Some (record { first = first; last = last; next = next }))) where
       pub listing-given : Given f len (len - (n + 1)) at first last next.at
       listing-given = given f bits len (len - (n + 1)) at first last next e
 
@@ -162,42 +166,35 @@ module _ (f : ℕ → ℕ) (bits : Bits f) (len : ℕ) (fs ls : List ℕ) where
     unfolding runs
     listing-past h = listing-whole (by-found (len - n))
       where
-        none : (m : ℕ) (r : Found) → First 1 f len at r
+        none : (m : ℕ) (r : Option ℕ) → First 1 f len at r
             → when_found r (λ lo. record { first = lo; last = last_around 1 f len lo } ∷ runs m f len (last_around 1 f len lo + 1)) ≡ []
-        none m (found.At lo) w = let z : ⊥ = omega (arith, w.0, w.1) in absurd z
-        none m found.Nothing w = refl
-        none m (found.Refused k) w = absurd w
+        none m (Some lo) w = let z : ⊥ = omega (arith, w.0, w.1) in absurd z
+        none m None w = refl
 
         by-found : (m : ℕ) → runs m f len at ≡ []
         by-found zero = refl
         by-found (suc m) = none m (next_set f len at) (next-is 1 f len at)
 
-    pub listing-done : next_run_as 0 f len at ≡ Done → Listed f len fs ls n fs' ls'
-    unfolding next_run_as unless runs
+    pub listing-done : next_run_as 0 f len at ≡ Ok None → Listed f len fs ls n fs' ls'
+    unfolding answer_as unless runs
     listing-done e = listing-whole (by-found (len - n))
       where
-        none : (m : ℕ) (r : Found) → run_step f len r ≡ Done → First 1 f len at r
+        none : (m : ℕ) (r : Option ℕ) → run_step f len r ≡ None → First 1 f len at r
             → when_found r (λ lo. record { first = lo; last = last_around 1 f len lo } ∷ runs m f len (last_around 1 f len lo + 1)) ≡ []
-        none m (found.At lo) q w = let z : ◌≡◌ {A = ℕ} 0 1 = ap kind_of q in let x : ⊥ = omega (arith, z) in absurd x
-        none m found.Nothing q w = refl
-        none m (found.Refused k) q w = absurd w
+        none m (Some lo) q w = let z : ◌≡◌ {A = ℕ} 0 1 = ap kind_of q in let x : ⊥ = omega (arith, z) in absurd x
+        none m None q w = refl
 
         by-found : (m : ℕ) → runs m f len at ≡ []
         by-found zero = refl
-        by-found (suc m) = none m (next_set f len at) e (next-is 1 f len at)
+        by-found (suc m) = none m (next_set f len at) (ap given_in e) (next-is 1 f len at)
 
     -- a row that may be read is not refused
-    pub listing-refused : (k : ℕ) → next_run_as 0 f len at ≡ Refused k → Listed f len fs ls n fs' ls'
-    unfolding next_run_as unless
-    listing-refused k e = absurd (none (next_set f len at) e (next-is 1 f len at))
-      where
-        none : (r : Found) → run_step f len r ≡ Refused k → First 1 f len at r → ⊥
-        none (found.At lo) q w = let z : ◌≡◌ {A = ℕ} 0 2 = ap kind_of q in omega (arith, z)
-        none found.Nothing q w = let z : ◌≡◌ {A = ℕ} 1 2 = ap kind_of q in omega (arith, z)
-        none (found.Refused j) q w = w
+    pub listing-refused : (k : ℕ) → next_run_as 0 f len at ≡ Err k → Listed f len fs ls n fs' ls'
+    unfolding answer_as unless
+    listing-refused k e = let z : ◌≡◌ {A = ℕ} 0 1 = ap refusal_in e in let no : ⊥ = omega (arith, z) in absurd no
 
 -- what an answer t of a row that is not refused says of the cursor by value
-pub answered : (n : ℕ) (f : ℕ → ℕ) (len at : ℕ) (t r : NextRun) → n ≡ 0 → t ≡ next_run_as n f len at → t ≡ r → next_run_as 0 f len at ≡ r
+pub answered : (n : ℕ) (f : ℕ → ℕ) (len at : ℕ) (t r : Result (Option NextRun) ℕ) → n ≡ 0 → t ≡ next_run_as n f len at → t ≡ r → next_run_as 0 f len at ≡ r
 answered n f len at t r z e q = sym (ap (λ (k : ℕ). next_run_as k f len at) z) ∙ sym e ∙ q
 
 -- ---- what a column holds: one end of each run in order, and every other entry as it was

@@ -1,10 +1,9 @@
 -- All runs of a person in two lent columns, the first slots and the last slots. Assumes nothing.
-use Rattle.std.specs.Prelude.{List, [], ◌∷◌, ◌++◌, ℕ, ◌+◌, ltb, leb, length, set}
+use Rattle.std.specs.Prelude.{List, [], ◌∷◌, ◌++◌, ℕ, ◌+◌, ltb, leb, length, set, Result}
 use Rattle.paper.specs.Limits.{Test, test, number_of}
-use Rattle.paper.specs.Rows.{unless}
+use Rattle.paper.specs.Rows.{unless, answer_as}
 use Rattle.slotset.specs.Runs.{Ends, ends_of_runs}
-use Rattle.slotset.specs.declared.Number.{Number}
-use Rattle.slotset.specs.Answers.{sets_row, row_slots, number_as}
+use Rattle.slotset.specs.Answers.{sets_row, row_slots}
 
 -- 1, 2 and 11 of a person's row, where 2 is also a column with room for fewer entries than slots
 unfoldable pub runs_row : List ℕ → ℕ → ℕ → ℕ → ℕ → ℕ → List Test
@@ -22,7 +21,7 @@ runs_of ws person len = ends_of_runs (row_slots ws person) len
 
 -- the whole outcome: what is answered, and the two columns at exit
 pub record Outcome : Type 0 where
-  pub answer : Number
+  pub answer : Result ℕ ℕ
   pub firsts : List ℕ
   pub lasts : List ℕ
 
@@ -31,7 +30,7 @@ abbrev pub all_runs_of : List ℕ → ℕ → ℕ → ℕ → List ℕ → List 
 all_runs_of ws people person len fs ls =
     let n = number_of (runs_row ws people person len (length fs) (length ls)) in
     record {
-      answer = number_as n (length (runs_of ws person len));
+      answer = answer_as n (length (runs_of ws person len));
       firsts = unless n fs (column (λ e. e.first) (runs_of ws person len) 0 fs);
       lasts = unless n ls (column (λ e. e.last) (runs_of ws person len) 0 ls);
     }

@@ -10,7 +10,7 @@ ghost use Rattle.runs.specs.Listed.{runs_row, column, runs_of, all_runs_of};
 ghost use Rattle.runs.specs.Reader.{cursor_after, reader_of, moved_to, next_of};
 
 use paper::Refusal;
-use slotset::{Cursor, NextRun, Number, row};
+use slotset::{Cursor, NextRun, row};
 
 // How many people; how long a set is; the lent words, a set a person; whose set is read; and where the reader stands.
 #[derive(Clone, Copy)]
@@ -23,24 +23,25 @@ pub struct Runs<'a> {
 }
 
 // The next run from `at` on.
-fn run_at(people: usize, len: usize, words: &[u64], person: usize, at: usize) -> NextRun
+fn run_at(
+    people: usize,
+    len: usize,
+    words: &[u64],
+    person: usize,
+    at: usize,
+) -> Result<Option<NextRun>, u8>
     ensures { result ≡ row_next_run words.now people person len at }
 {
     row::next_run(people, len, words, person, Cursor { at })
 }
 
 // Where a reader that stood at `at` stands after an answer.
-fn cursor_after(answer: NextRun, at: usize) -> usize
+fn cursor_after(answer: Result<Option<NextRun>, u8>, at: usize) -> usize
     ensures { result ≡ cursor_after answer at }
 {
     match answer {
-        NextRun::Span {
-            first: _,
-            last: _,
-            next,
-        } => next.at,
-        NextRun::Done => at,
-        NextRun::Refused(_) => at,
+        Ok(Some(run)) => run.next.at,
+        Ok(None) | Err(_) => at,
     }
 }
 
@@ -58,8 +59,8 @@ impl<'a> Runs<'a> {
         }
     }
 
-    // The next run, with the cursor one past it; or Done.
-    pub fn next(self) -> NextRun
+    // The next run, with the cursor one past it; or none.
+    pub fn next(self) -> Result<Option<NextRun>, u8>
         ensures { result ≡ next_of self.entry }
     {
         run_at(self.people, self.len, self.words, self.person, self.at)
@@ -69,17 +70,11 @@ impl<'a> Runs<'a> {
     pub fn moved(self, at: usize) -> Runs<'a>
         ensures { result ≡ moved_to self.entry at }
     {
-        Runs {
-            people: self.people,
-            len: self.len,
-            words: self.words,
-            person: self.person,
-            at,
-        }
+        Runs { at, ..self }
     }
 
     // The next run, and the reader goes on past it: an iterator's step.
-    pub fn advance(&mut self) -> NextRun
+    pub fn advance(&mut self) -> Result<Option<NextRun>, u8>
         ensures { (result ≡ next_of self.old)
             × (self.new ≡ moved_to self.old (cursor_after result self.old.at)) }
     {
@@ -90,7 +85,13 @@ impl<'a> Runs<'a> {
 }
 
 // The next run from `at` on, by a reader made for it. Its parameters are plain, so whoever calls it needs no walk.
-pub fn run_from(people: usize, len: usize, words: &[u64], person: usize, at: usize) -> NextRun
+pub fn run_from(
+    people: usize,
+    len: usize,
+    words: &[u64],
+    person: usize,
+    at: usize,
+) -> Result<Option<NextRun>, u8>
     ensures { result ≡ row_next_run words.now people person len at }
 {
     Runs::new(people, len, words, person).moved(at).next()
@@ -129,20 +130,17 @@ fn list_runs(
 {
     let mut n: usize = 0;
     let mut at: usize = 0;
+    // a while: each step jumps past the run found, so no range is walked
     while at < len {
         match run_from(people, len, words, person, at) {
-            NextRun::Span { first, last, next } => {
-                firsts[n] = first as u16;
-                lasts[n] = last as u16;
+            Ok(Some(run)) => {
+                firsts[n] = run.first as u16;
+                lasts[n] = run.last as u16;
                 n += 1;
-                at = next.at;
+                at = run.next.at;
             }
-            NextRun::Done => {
-                return n;
-            }
-            NextRun::Refused(_) => {
-                return n;
-            }
+            Ok(None) => return n,
+            Err(_) => return n,
         }
     }
     n
@@ -156,14 +154,14 @@ pub fn all_runs(
     firsts: &mut [u16],
     lasts: &mut [u16],
     person: usize,
-) -> Number
+) -> Result<usize, u8>
     ensures { (result ≡ (all_runs_of words.now people person len firsts.old lasts.old).answer)
         × ((firsts.new ≡ (all_runs_of words.now people person len firsts.old lasts.old).firsts)
         × (lasts.new ≡ (all_runs_of words.now people person len firsts.old lasts.old).lasts)) }
 {
     let number = list_refusal(people, len, words, firsts.len(), lasts.len(), person).number;
     if number == 0 {
-        return Number::Is(list_runs(people, len, words, firsts, lasts, person));
+        return Ok(list_runs(people, len, words, firsts, lasts, person));
     }
-    Number::Refused(number)
+    Err(number)
 }

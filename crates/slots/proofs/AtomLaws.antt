@@ -1,21 +1,19 @@
 -- The outcome of splitting. Assumes nothing.
+use Rattle.std.specs.Prelude.{Ok, Err}
 use mathlib.Core.Path.{◌≡◌, refl, sym, ap, ◌∙◌}
 use mathlib.Core.Bool.{true, false}
-use mathlib.Core.Logic.{⊎_elim}
-use mathlib.Core.List.{List, [], ◌∷◌}
+use mathlib.Core.List.{List, [], ◌∷◌, ◌++◌}
 use Prim.Native.Nat.{ℕ, ◌+◌, ◌≤◌, ◌<◌}
 use native.Mathlib.Omega.{arith}
 use borrow.Author.Tests.{le-leb, lt-leb, leb-true, eq-eqb, ne_eqb}
 use lib.Dec.{leb, eqb}
-use lib.ListN.{length, get_or, take}
+use lib.ListN.{length, get_or, take, drop}
+use Rattle.std.proofs.Common.{Option, Some, None}
 use Rattle.paper.specs.Limits.{people_ok, slot_count_ok, or_else, Test, test, number_of}
-use Rattle.paper.specs.Rows.{unless, refusal_of, next}
+use Rattle.paper.specs.Rows.{unless, refusal_of, next, answer_as}
 use Rattle.paper.specs.declared.Refusal.{Refusal}
-use Rattle.paper.specs.Count.{over}
-use Rattle.paper.proofs.Logic.{lt-or-ge, slot-count-says}
+use Rattle.paper.proofs.Logic.{slot-count-says}
 use Rattle.paper.proofs.Rows.{passed, said, checked-more, link, ends, next-pass, next-fail, next-kept}
-use Rattle.slotset.specs.declared.Number.TheVariants as number
-use Rattle.slotset.specs.Answers.{number_as}
 use Rattle.slots.specs.Lent.{slot_room_ok, slots_ok, SlotsSound}
 use Rattle.slots.specs.Ranges.{range_count_ok, range_room_ok, ranges_ok}
 use Rattle.slots.specs.Atomic.{is_cut, atom_starts, atom_ends, Base, base_row, atomise_row, atomise_of, starts_of_atoms, ends_of_atoms}
@@ -24,7 +22,7 @@ use Rattle.slots.specs.Inside.{RangesSound, MergedFrom, key_cut, or_full, Grown}
 use Rattle.slots.proofs.LentLaws.{room_says, slots-sound}
 use Rattle.slots.proofs.RangeLaws.{ranges-sound, ranges-known}
 use Rattle.slots.proofs.MergedLaws.{front-onto, held-list}
-use Rattle.slots.proofs.CutLaws.{full-some, full-over}
+use Rattle.slots.proofs.CutLaws.{full-is, full-not}
 use Rattle.slots.proofs.CutMinutes.{cut-is}
 use Rattle.slots.proofs.SplitLaws.{starts-same, ends_same}
 
@@ -98,15 +96,15 @@ module _ (B : Base) (f : Refusal) (e : f ≡ refusal_of (base_row B)) where
 -- ---- refused, and done
 
 pub atoms-refused : (B : Base) (n : ℕ) → number_of (atomise_row B) ≡ n → (n ≡ 0 → ⊥)
-    → AtomsEnd (atomise_of B) (number.Refused n) B.out_starts B.out_ends
-unfolding atomise_of number_as unless
+    → AtomsEnd (atomise_of B) (Err n) B.out_starts B.out_ends
+unfolding atomise_of answer_as unless
 atoms-refused B n e h =
     let z : eqb (number_of (atomise_row B)) 0 ≡ false = ne_eqb _ _ (λ q. h (sym e ∙ q)) in
-    record { said = simp z (ap number.Refused (sym e)); starts = simp z; ends = simp z }
+    record { said = simp z (ap Err (sym e)); starts = simp z; ends = simp z }
 
 module _ (B : Base) (fault : Refusal) (e : fault ≡ refusal_of (base_row B)) (z : fault.number ≡ 0)
     (keys : List ℕ) (n : ℕ) (M : MergedFrom B.ranges keys n)
-    (S E S' E' : List ℕ) (r : ℕ)
+    (S E S' E' : List ℕ) (r : Option ℕ)
     (G : Grown 0 S E (atom_starts (key_cut (take n keys)) B.slots B.starts B.ends)
     (atom_ends (key_cut (take n keys)) B.slots B.starts B.ends) r S' E') where
   by-minutes : (t : ℕ) → key_cut (take n keys) t ≡ is_cut B.people B.ranges t
@@ -130,39 +128,41 @@ module _ (B : Base) (fault : Refusal) (e : fault ≡ refusal_of (base_row B)) (z
       G.number ∙ ap or_full q
 
   -- more than 1,024
-  pub atoms-full : 1024 < r → AtomsEnd (atomise_of B) (number.Refused 5) B.out_starts B.out_ends
+  pub atoms-full : r ≡ None → AtomsEnd (atomise_of B) (Err 5) B.out_starts B.out_ends
   atoms-full h =
-      let over : 1024 < length (starts_of_atoms B) =
-      ⊎_elim (λ x. x) (λ (x : length (starts_of_atoms B) ≤ 1024). absurd (omega (arith, number_is, full-some (length (starts_of_atoms B)) x)))
-      (lt-or-ge 1024 (length (starts_of_atoms B))) in
+      let over = full-not (length (starts_of_atoms B)) (sym h ∙ number_is) in
       atoms-refused B 5 (after-five B fault e z (lt-leb (length (starts_of_atoms B)) 1024 over)) (λ q. omega arith)
 
-  module _ (h : r ≤ 1024) where
+  module _ (m : ℕ) (h : r ≡ Some m) where
     few-atoms : length (starts_of_atoms B) ≤ 1024
-    few-atoms =
-        ⊎_elim (λ (x : 1024 < length (starts_of_atoms B)). absurd (omega (arith, number_is, full-over (length (starts_of_atoms B)) x)))
-        (λ x. x)
-        (lt-or-ge 1024 (length (starts_of_atoms B)))
+    few-atoms = (full-is (length (starts_of_atoms B)) m (sym h ∙ number_is)).1
 
-    count-is : r ≡ length (starts_of_atoms B)
-    count-is = number_is ∙ full-some (length (starts_of_atoms B)) few-atoms
+    pub count-is : m ≡ length (starts_of_atoms B)
+    count-is = (full-is (length (starts_of_atoms B)) m (sym h ∙ number_is)).0
+
+    pub room-for-atoms : m ≤ 1024
+    room-for-atoms = omega (arith, count-is, few-atoms)
+
+    counted : 0 + length (atom_starts (key_cut (take n keys)) B.slots B.starts B.ends) ≡ m
+    counted = omega (arith, ap length same-starts, count-is)
 
     fits : 0 + length (atom_starts (key_cut (take n keys)) B.slots B.starts B.ends) ≤ 1024
     fits = omega (arith, ap length same-starts, few-atoms)
 
     pub atoms-done : 1024 ≤ length S' → 1024 ≤ length E' → (F T : List ℕ)
-        → F ≡ over (λ k. get_or S' k 0) r B.out_starts → T ≡ over (λ k. get_or E' k 0) r B.out_ends
-        → AtomsEnd (atomise_of B) (number.Is r) F T
-    unfolding atomise_of number_as unless
+        → F ≡ take m S' ++ drop m B.out_starts → T ≡ take m E' ++ drop m B.out_ends → AtomsEnd (atomise_of B) (Ok m) F T
+    unfolding atomise_of answer_as unless
     atoms-done a b F T p q =
         let none : eqb (number_of (atomise_row B)) 0 ≡ true = eq-eqb _ _
         (after_none B fault e z (le-leb (length (starts_of_atoms B)) 1024 few-atoms)) in
-        let room = (base-says B (sym (said _ e) ∙ z)).room in
-        let room-starts : r ≤ length B.out_starts = omega (arith, room.0) in
-        let room-ends : r ≤ length B.out_ends = omega (arith, room.1) in
         record {
-          said = simp none (ap number.Is count-is);
+          said = simp none (ap Ok count-is);
           starts =
-              simp none (p ∙ front-onto S' (starts_of_atoms B) B.out_starts r (G.starts fits ∙ same-starts) (omega arith) room-starts);
-          ends = simp none (q ∙ front-onto E' (ends_of_atoms B) B.out_ends r (G.ends fits ∙ same_ends) (omega arith) room-ends);
+              simp none
+              (p ∙ front-onto S' (starts_of_atoms B) B.out_starts m (rw counted at (G.starts fits) ∙ same-starts)
+              (omega (arith, room-for-atoms)));
+          ends =
+              simp none
+              (q ∙ front-onto E' (ends_of_atoms B) B.out_ends m (rw counted at (G.ends fits) ∙ same_ends)
+              (omega (arith, room-for-atoms)));
         }

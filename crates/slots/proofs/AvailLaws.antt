@@ -1,4 +1,5 @@
 -- A slot is available exactly where one merged range holds it whole; and the sets, row by row. Assumes nothing.
+use Rattle.std.specs.Prelude.{Result, Err}
 use mathlib.Core.Path.{◌≡◌, refl, sym, ap, ◌∙◌}
 use mathlib.Core.Bool.{Bool, true, false}
 use mathlib.Core.Logic.{⊎_elim}
@@ -11,16 +12,14 @@ use lib.Dec.{leb, ltb, eqb}
 use lib.ListN.{length, get_or, take}
 use lib.Seq.{get_or-take, length-take-le}
 use Rattle.paper.specs.Limits.{people_ok, number_of}
-use Rattle.paper.specs.Rows.{unless}
+use Rattle.paper.specs.Rows.{unless, answer_as}
 use Rattle.paper.specs.Count.{all_in}
 use Rattle.paper.proofs.Logic.{by-test, lt-or-ge, both, and-true, or_left, or-second, or-either, same_test}
 use Rattle.paper.proofs.Logic.{slot-count-says}
 use Rattle.paper.proofs.Rows.{passed}
 use Rattle.paper.proofs.Count.{in-each, each_in}
-use Rattle.slotset.specs.declared.YesNo.{YesNo}
-use Rattle.slotset.specs.declared.YesNo.TheVariants as yes_no
 use Rattle.slotset.specs.Slots.{put_slot, put_slots, value_of, has}
-use Rattle.slotset.specs.Answers.{row_refusal, row_slots, row_stretch_of, yes_no_as}
+use Rattle.slotset.specs.Answers.{row_refusal, row_slots, row_stretch_of}
 use Rattle.slotset.proofs.Puts.{length-puts, puts_one, puts-same}
 use Rattle.slotset.proofs.Refusals.{says_row, stretch-puts}
 use Rattle.slots.specs.Lent.{SlotsSound}
@@ -178,10 +177,6 @@ reaches-none keys r place h = simp (le-ltb 0 r h)
 -- ---- the walk to it
 
 module _ (n : ℕ) (f : ℕ → ℕ) (bound r : ℕ) (few : r ≤ n) (by : (k : ℕ) → k < r → f k ≤ bound) where
-  pub opened-more : f r ≤ bound → (k : ℕ) → k < r + 1 → f k ≤ bound
-  opened-more h k l =
-      ⊎_elim (λ i. by k i) (λ (i : r ≤ k). let e : k ≡ r = omega arith in omega (arith, ap f e)) (lt-or-ge k r)
-
   pub opened-stops : ((k j : ℕ) → k < j → j < n → f k ≤ f j) → bound < f r → Opening n f bound r
   opened-stops rise h =
       record {
@@ -332,11 +327,11 @@ row-turn l starts ends people person slots base k ws₀ ws next want ok few know
 -- ---- may this person cover this slot
 
 module _ (slots : ℕ) (words : List ℕ) (people person slot no : ℕ) (e : no ≡ number_of (available_row people slots words person slot)) where
-  pub available-refused : (no ≡ 0 → ⊥) → yes_no.Refused no ≡ is_available people slots words person slot
-  unfolding is_available yes_no_as unless
+  pub available-refused : (no ≡ 0 → ⊥) → Err no ≡ is_available people slots words person slot
+  unfolding is_available answer_as unless
   available-refused h =
       let z : eqb (number_of (available_row people slots words person slot)) 0 ≡ false = ne_eqb _ _ (λ q. h (e ∙ q)) in
-      simp z (ap yes_no.Refused e)
+      simp z (ap Err e)
 
   row-none : number_of (available_row people slots words person slot) ≡ 0 → row_refusal words people person slots ≡ 0
   unfolding available_row
@@ -344,9 +339,9 @@ module _ (slots : ℕ) (words : List ℕ) (people person slot no : ℕ) (e : no 
       let h = passed (available_row people slots words person slot) refl z in
       says_row words people person slots (h 0) (slot-count-says slots (h 1)).1 (leb-true _ _ (h 2)) (ltb-true _ _ (h 3))
 
-  pub available-answered : no ≡ 0 → (r : YesNo) → r ≡ yes_no_as (row_refusal words people person slots)
+  pub available-answered : no ≡ 0 → (r : Result Bool ℕ) → r ≡ answer_as (row_refusal words people person slots)
       (has (row_slots words person) slots slot)
       → r ≡ is_available people slots words person slot
   unfolding is_available
   available-answered h r d =
-      d ∙ ap (λ (n : ℕ). yes_no_as n (has (row_slots words person) slots slot)) (row-none (sym e ∙ h) ∙ sym (sym e ∙ h))
+      d ∙ ap (λ (n : ℕ). answer_as n (has (row_slots words person) slots slot)) (row-none (sym e ∙ h) ∙ sym (sym e ∙ h))

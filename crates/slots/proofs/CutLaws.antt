@@ -10,6 +10,7 @@ use borrow.Author.Tests.{lt-ltb, le-ltb, le-leb, lt-leb}
 use lib.Dec.{ltb}
 use lib.ListN.{length, get_or, take, set, length-append, length-set}
 use lib.Seq.{length-take-le}
+use Rattle.std.proofs.Common.{Option, Some, None}
 use Rattle.paper.specs.Count.{among}
 use Rattle.paper.proofs.Logic.{lt-or-ge, and-true, and-stops}
 use Rattle.paper.proofs.Count.{among_in, among-gap, among-longer}
@@ -66,13 +67,24 @@ pub record Splitting (cut : ℕ → Bool) (s count prev m : ℕ) (S₀ E₀ S E 
   pub starts : take m S ++ (prev ∷ []) ≡ take count S₀ ++ (s ∷ among (cut_after cut s) (prev + 1))
   pub ends : take m E ≡ take count E₀ ++ among (cut_after cut s) (prev + 1)
 
-pub full-some : (n : ℕ) → n ≤ 1024 → or_full n ≡ n
+pub full-some : (n : ℕ) → n ≤ 1024 → or_full n ≡ Some n
 unfolding or_full
 full-some n h = simp (le-leb n 1024 h)
 
-pub full-over : (n : ℕ) → 1024 < n → or_full n ≡ 1025
+pub full-over : (n : ℕ) → 1024 < n → or_full n ≡ None
 unfolding or_full
 full-over n h = simp (lt-leb n 1024 h)
+
+-- a number that was given is that of all, and few enough
+pub full-is : (n r : ℕ) → Some r ≡ or_full n → (r ≡ n) × (n ≤ 1024)
+full-is n r e =
+    ⊎_elim (λ (g : 1024 < n). absurd (let q : Some r ≡ None = e ∙ full-over n g in cc))
+    (λ (g : n ≤ 1024). let q : Some r ≡ Some n = e ∙ full-some n g in (cc, g)) (lt-or-ge 1024 n)
+
+-- where none was given they are too many
+pub full-not : (n : ℕ) → None ≡ or_full n → 1024 < n
+full-not n e =
+    ⊎_elim (λ g. g) (λ (g : n ≤ 1024). absurd (let q : None ≡ Some n = e ∙ full-some n g in cc)) (lt-or-ge 1024 n)
 
 pub split-starts : (cut : ℕ → Bool) (s count : ℕ) (S E : List ℕ) → count ≤ 1024 → 1024 ≤ length S → 1024 ≤ length E
     → Splitting cut s count s count S E S E
@@ -114,7 +126,7 @@ module _ (cut : ℕ → Bool) (s count prev m : ℕ) (S₀ E₀ S E : List ℕ) 
         }
 
     pub split-ends : count ≤ 1024 → end ≤ c
-        → Grown count S₀ E₀ (s ∷ cuts_in cut s end) (cuts_in cut s end ++ (end ∷ [])) (m + 1) (set S m prev) (set E m c)
+        → Grown count S₀ E₀ (s ∷ cuts_in cut s end) (cuts_in cut s end ++ (end ∷ [])) (Some (m + 1)) (set S m prev) (set E m c)
     split-ends few g =
         let q = cuts-last cut s prev end c I.from N g in
         let e : c ≡ end = omega (arith, N.within) in
@@ -129,14 +141,14 @@ module _ (cut : ℕ → Bool) (s count prev m : ℕ) (S₀ E₀ S E : List ℕ) 
           length-take-le (m + 1) (set S m prev) (omega (arith, length-set S m prev, (split-room h).0)),
         ) in
         record {
-          number = n ∙ sym (full-some _ (omega (arith, n)));
-          starts = λ _. a;
-          ends = λ _. new-ends ∙ ap₂ (λ (k : List ℕ) (x : ℕ). take count E₀ ++ (k ++ (x ∷ []))) (sym q) e;
+          number = ap Some n ∙ sym (full-some _ (omega (arith, n)));
+          starts = λ _. rw (← n) a;
+          ends = λ _. rw (← n) (new-ends ∙ ap₂ (λ (k : List ℕ) (x : ℕ). take count E₀ ++ (k ++ (x ∷ []))) (sym q) e);
         }
 
   -- no room for the next piece
   pub split-full : (end : ℕ) → prev < end → count ≤ 1024 → 1024 ≤ m
-      → Grown count S₀ E₀ (s ∷ cuts_in cut s end) (cuts_in cut s end ++ (end ∷ [])) 1025 S E
+      → Grown count S₀ E₀ (s ∷ cuts_in cut s end) (cuts_in cut s end ++ (end ∷ [])) None S E
   unfolding cuts_in
   split-full end h few g =
       let e : end ≡ prev + 1 + (end - (prev + 1)) = omega arith in
@@ -195,7 +207,7 @@ module _ (cut : ℕ → Bool) (starts ends : List ℕ) where
   unfolding atom_starts atom_ends
   grow-starts F T = record { few = omega arith; number = refl; lengths = (refl, refl); froms = refl; tos = refl }
 
-  module _ (i count r : ℕ) (F₀ T₀ F T F' T' : List ℕ) (G : Growing cut i starts ends count F₀ T₀ F T)
+  module _ (i count : ℕ) (r : Option ℕ) (F₀ T₀ F T F' T' : List ℕ) (G : Growing cut i starts ends count F₀ T₀ F T)
       (W : Grown count F T (get_or starts i 0 ∷ cuts_in cut (get_or starts i 0) (get_or ends i 0)) (cuts_in cut (get_or starts i 0) (get_or ends i 0) ++
       (get_or ends i 0 ∷ [])) r F' T') where
     total : length (atom_starts cut (i + 1) starts ends) ≡ count + length (get_or starts i 0 ∷ cuts_in cut (get_or starts i 0) (get_or ends i 0))
@@ -207,43 +219,34 @@ module _ (cut : ℕ → Bool) (starts ends : List ℕ) where
           length-append (atom_starts cut i starts ends) (get_or starts i 0 ∷ cuts_in cut (get_or starts i 0) (get_or ends i 0)),
         )
 
-    fits-of : r ≤ 1024 → count + length (get_or starts i 0 ∷ cuts_in cut (get_or starts i 0) (get_or ends i 0)) ≤ 1024
-    fits-of h =
-        ⊎_elim (λ (g : 1024 < count + length (get_or starts i 0 ∷ cuts_in cut (get_or starts i 0) (get_or ends i 0))). absurd (omega
-        (arith, W.number, full-over _ g))) (λ g. g)
-        (lt-or-ge 1024 (count + length (get_or starts i 0 ∷ cuts_in cut (get_or starts i 0) (get_or ends i 0))))
-
-    pub grow-more : length F' ≡ length F → length T' ≡ length T → r ≤ 1024 → Growing cut (i + 1) starts ends r F₀ T₀ F' T'
-    grow-more a b h =
-        let f = fits-of h in
+    pub grow-more : length F' ≡ length F → length T' ≡ length T → (m : ℕ) → r ≡ Some m → Growing cut (i + 1) starts ends m F₀ T₀ F' T'
+    grow-more a b m e =
+        let f = full-is (count + length (get_or starts i 0 ∷ cuts_in cut (get_or starts i 0) (get_or ends i 0))) m (sym e ∙ W.number) in
         record {
-          few = h;
-          number = W.number ∙ full-some _ f ∙ sym total;
+          few = omega (arith, f.0, f.1);
+          number = f.0 ∙ sym total;
           lengths = (a ∙ G.lengths.0, b ∙ G.lengths.1);
-          froms = W.starts f ∙ ap (λ (k : List ℕ). k ++ (get_or starts i 0 ∷ cuts_in cut (get_or starts i 0) (get_or ends i 0))) G.froms
+          froms = rw f.0 (W.starts f.1) ∙ ap (λ (k : List ℕ). k ++ (get_or starts i 0 ∷ cuts_in cut (get_or starts i 0) (get_or ends i 0))) G.froms
               ∙ sym (starts_more i);
-          tos = W.ends f ∙ ap (λ (k : List ℕ). k ++ (cuts_in cut (get_or starts i 0) (get_or ends i 0) ++ (get_or ends i 0 ∷ []))) G.tos
+          tos = rw f.0 (W.ends f.1) ∙ ap (λ (k : List ℕ). k ++ (cuts_in cut (get_or starts i 0) (get_or ends i 0) ++ (get_or ends i 0 ∷ []))) G.tos
               ∙ sym (ends_more i);
         }
 
-    pub grow-full : (slots : ℕ) → i < slots → 1024 < r → Grown 0 F₀ T₀ (atom_starts cut slots starts ends)
-        (atom_ends cut slots starts ends) r F' T'
+    pub grow-full : (slots : ℕ) → i < slots → r ≡ None → Grown 0 F₀ T₀ (atom_starts cut slots starts ends)
+        (atom_ends cut slots starts ends) None F' T'
     grow-full slots h g =
-        let over : 1024 < count + length (get_or starts i 0 ∷ cuts_in cut (get_or starts i 0) (get_or ends i 0)) =
-        ⊎_elim (λ x. x) (λ (x : count + length (get_or starts i 0 ∷ cuts_in cut (get_or starts i 0) (get_or ends i 0)) ≤ 1024). absurd (omega
-        (arith, W.number, full-some _ x)))
-        (lt-or-ge 1024 (count + length (get_or starts i 0 ∷ cuts_in cut (get_or starts i 0) (get_or ends i 0)))) in
+        let over = full-not (count + length (get_or starts i 0 ∷ cuts_in cut (get_or starts i 0) (get_or ends i 0))) (sym g ∙ W.number) in
         let e : slots ≡ i + 1 + (slots - (i + 1)) = omega arith in
         let all : 1024 < 0 + length (atom_starts cut slots starts ends) =
         omega (arith, over, total, starts-longer (i + 1) (slots - (i + 1)), ap (λ (n : ℕ). length (atom_starts cut n starts ends)) e) in
         record {
-          number = W.number ∙ full-over _ over ∙ sym (full-over _ all);
+          number = sym (full-over _ all);
           starts = λ x. absurd (omega arith);
           ends = λ x. absurd (omega arith);
         }
 
   pub grow-ends : (slots i count : ℕ) (F₀ T₀ F T : List ℕ) → Growing cut i starts ends count F₀ T₀ F T → i ≤ slots → slots ≤ i
-      → Grown 0 F₀ T₀ (atom_starts cut slots starts ends) (atom_ends cut slots starts ends) count F T
+      → Grown 0 F₀ T₀ (atom_starts cut slots starts ends) (atom_ends cut slots starts ends) (Some count) F T
   grow-ends slots i count F₀ T₀ F T G a b =
       let e : i ≡ slots = omega arith in
       let n : count ≡ 0 + length (atom_starts cut slots starts ends) = omega (
@@ -253,7 +256,7 @@ module _ (cut : ℕ → Bool) (starts ends : List ℕ) where
             (atom_starts cut n starts ends)) e,
       ) in
       record {
-        number = n ∙ sym (full-some _ (omega (arith, n, G.few)));
-        starts = λ _. G.froms ∙ ap (λ (n : ℕ). atom_starts cut n starts ends) e;
-        ends = λ _. G.tos ∙ ap (λ (n : ℕ). atom_ends cut n starts ends) e;
+        number = ap Some n ∙ sym (full-some _ (omega (arith, n, G.few)));
+        starts = λ _. rw (← n) (G.froms ∙ ap (λ (n : ℕ). atom_starts cut n starts ends) e);
+        ends = λ _. rw (← n) (G.tos ∙ ap (λ (n : ℕ). atom_ends cut n starts ends) e);
       }

@@ -1,21 +1,23 @@
 -- The slots that end by an instant open the list: their count, and their marks. Assumes nothing.
+use Rattle.std.specs.Prelude.{Ok, Err}
 use mathlib.Core.Path.{◌≡◌, refl, sym, ap, ap₂, ◌∙◌}
 use mathlib.Core.Bool.{true, false}
 use mathlib.Core.Logic.{⊎_elim}
 use mathlib.Core.List.{List}
 use Prim.Native.Nat.{ℕ, zero, suc, ◌+◌, ◌-◌, ◌≤◌, ◌<◌}
 use native.Mathlib.Omega.{arith}
-use borrow.Author.Tests.{le-leb, lt-leb, leb-true, eq-eqb, ne_eqb}
-use lib.Dec.{eqb}
+use borrow.Author.Tests.{le-leb, lt-leb, leb-true, leb-false, eq-eqb, ne_eqb}
+use lib.Dec.{eqb, leb}
 use lib.ListN.{length, get_or}
+use Rattle.std.specs.List.Sorted.{IsPartitionedBy, IsPartitionPoint}
+use Rattle.std.proofs.lemmas.List.Sorted.{IsPartitionedBy-leb, IsNonDecreasingBy-from_default}
 use Rattle.paper.specs.Limits.{people_ok, number_of}
-use Rattle.paper.specs.Rows.{unless}
+use Rattle.paper.specs.Rows.{unless, answer_as}
 use Rattle.paper.proofs.Logic.{lt-or-ge, slot-count-says}
 use Rattle.paper.proofs.Rows.{passed}
 use Rattle.paper.proofs.Count.{count-opening}
-use Rattle.slotset.specs.declared.Number.TheVariants as number
 use Rattle.slotset.specs.Slots.{put_slot, put_slots}
-use Rattle.slotset.specs.Answers.{row_stretch_of, number_as}
+use Rattle.slotset.specs.Answers.{row_stretch_of}
 use Rattle.slotset.proofs.Refusals.{says_row, stretch-puts}
 use Rattle.slots.specs.Lent.{SlotsSound}
 use Rattle.slots.specs.Freeze.{ends_by, ended_by, marked, freeze_row, freeze_of}
@@ -66,47 +68,31 @@ pub ends-rise : (slots : ℕ) (starts ends : List ℕ) → SlotsSound slots star
     → get_or ends k 0 ≤ get_or ends j 0
 ends-rise slots starts ends S k j h l = omega (arith, S.ascending k j h l, S.ordered j l)
 
--- ---- the search for the opening stretch: all below `low` are at most the bound, none from `high` on is
-pub record Between (n : ℕ) (f : ℕ → ℕ) (bound low high : ℕ) : Type 0 where
-  pub order : low ≤ high
-  pub few : high ≤ n
-  pub by : (k : ℕ) → k < low → f k ≤ bound
-  pub after : (k : ℕ) → high ≤ k → k < n → bound < f k
+-- ---- the search for the opening stretch: what `partition_point` finds in the places from `low` on
+module _ (n low : ℕ) (f : ℕ → ℕ) (bound : ℕ) (rise : (k j : ℕ) → k < j → j < n → f k ≤ f j) (few : low ≤ n)
+    (known : (k : ℕ) → k < low → f k ≤ bound) where
+  no-later : (k j : ℕ) → k ≤ j → j < n → f k ≤ f j
+  no-later k j a b =
+      ⊎_elim (λ (h : k < j). rise k j h b) (λ (h : j ≤ k). let e : k ≡ j = omega arith in omega (arith, ap f e)) (lt-or-ge k j)
 
-module _ (n : ℕ) (f : ℕ → ℕ) (bound : ℕ) where
-  pub between-all : Between n f bound 0 n
-  between-all = record { order = omega arith; few = omega arith; by = λ k h. absurd (omega arith); after = λ k a b. absurd (omega arith) }
-
-  -- where the first are known to
-  pub between-from : (known : ℕ) → known ≤ n → ((k : ℕ) → k < known → f k ≤ bound) → Between n f bound known n
-  between-from known h by = record { order = h; few = omega arith; by = by; after = λ k a b. absurd (omega arith) }
-
-  module _ (rise : (k j : ℕ) → k < j → j < n → f k ≤ f j) (low high m : ℕ) (B : Between n f bound low high) where
-    no-later : (k j : ℕ) → k ≤ j → j < n → f k ≤ f j
-    no-later k j a b =
-        ⊎_elim (λ (h : k < j). rise k j h b) (λ (h : j ≤ k). let e : k ≡ j = omega arith in omega (arith, ap f e)) (lt-or-ge k j)
-
-    pub between-up : low ≤ m → m < high → f m ≤ bound → Between n f bound (m + 1) high
-    between-up a b h =
-        record {
-          order = omega arith;
-          few = B.few;
-          by = λ k g. omega (arith, no-later k m (omega arith) (omega (arith, B.few)));
-          after = B.after;
-        }
-
-    pub between-down : low ≤ m → m < high → bound < f m → Between n f bound low m
-    between-down a b h =
-        record {
-          order = a;
-          few = omega (arith, B.few);
-          by = B.by;
-          after = λ k g l. omega (arith, no-later m k g l);
-        }
-
-  pub between_done : (low high : ℕ) → Between n f bound low high → high ≤ low → Opening n f bound low
-  between_done low high B h =
-      record { few = omega (arith, B.order, B.few); by = B.by; after = λ k a b. B.after k (omega (arith, B.order)) b }
+  pub opening-found : (g : ℕ → ℕ) (xs : List ℕ) → length xs + low ≡ n → ((k : ℕ) → k < length xs → g (get_or xs k 0) ≡ f (low + k))
+      → (r : ℕ) → r ≤ length xs
+      → (IsPartitionedBy (λ x. leb (g x) bound) xs → IsPartitionPoint (λ x. leb (g x) bound ≡ true) (λ x. leb (g x) bound ≡ false) xs r)
+      → Opening n f bound (low + r)
+  opening-found g xs len same r fits found =
+      let at = found (IsPartitionedBy-leb g xs bound (IsNonDecreasingBy-from_default g xs 0
+      (λ i j a b. omega (arith, same i (omega arith), same j b, no-later (low + i) (low + j) (omega arith) (omega arith))))) in
+      record {
+        few = omega arith;
+        by = λ k h. ⊎_elim (known k)
+            (λ (a : low ≤ k).
+            let e : low + (k - low) ≡ k = omega arith in
+            omega (arith, ap f e, same (k - low) (omega arith), leb-true _ _ (at.0 (k - low) 0 (omega arith) (omega arith))))
+            (lt-or-ge k low);
+        after = λ k a b.
+            let e : low + (k - low) ≡ k = omega arith in
+            omega (arith, ap f e, same (k - low) (omega arith), leb-false _ _ (at.1 (k - low) 0 (omega arith) (omega arith)));
+      }
 
 -- ---- the numbers
 
@@ -129,20 +115,20 @@ stretch-put slots n ws a b h =
 -- the two outcomes
 module _ (slots : ℕ) (starts ends frozen : List ℕ) (instant no : ℕ) (e : no ≡ number_of (freeze_row slots starts ends frozen)) where
   pub freeze-refused : (no ≡ 0 → ⊥)
-      → (number.Refused no ≡ (freeze_of slots starts ends frozen instant).answer) ×
+      → (Err no ≡ (freeze_of slots starts ends frozen instant).answer) ×
       (frozen ≡ (freeze_of slots starts ends frozen instant).flags)
-  unfolding freeze_of number_as unless
+  unfolding freeze_of answer_as unless
   freeze-refused h =
       let z : eqb (number_of (freeze_row slots starts ends frozen)) 0 ≡ false = ne_eqb _ _ (λ q. h (e ∙ q)) in
-      (simp z (ap number.Refused e), simp z)
+      (simp z (ap Err e), simp z)
 
   pub freeze-done : no ≡ 0 → (n : ℕ) → Opening slots (λ k. get_or ends k 0) instant n → (ws : List ℕ)
       → ws ≡ row_stretch_of 1 frozen 1 0 slots 0 n
-      → (number.Is n ≡ (freeze_of slots starts ends frozen instant).answer) × (ws ≡ (freeze_of slots starts ends frozen instant).flags)
-  unfolding freeze_of number_as unless
+      → (Ok n ≡ (freeze_of slots starts ends frozen instant).answer) × (ws ≡ (freeze_of slots starts ends frozen instant).flags)
+  unfolding freeze_of answer_as unless
   freeze-done h n O ws w =
       let z : eqb (number_of (freeze_row slots starts ends frozen)) 0 ≡ true = eq-eqb _ _ (sym e ∙ h) in
       let k = freeze-says slots starts ends frozen (sym e ∙ h) in (
-        simp z (ap number.Is (sym (opening-count slots ends instant n O))),
+        simp z (ap Ok (sym (opening-count slots ends instant n O))),
         simp z (w ∙ stretch-put slots n frozen k.0 k.1 O.few ∙ sym (opening-marked slots ends instant n O frozen)),
       )

@@ -5,18 +5,17 @@ use mathlib.Core.List.{List}
 use Prim.Native.Nat.{ℕ, zero, suc, ◌+◌, ◌-◌, ◌≤◌, ◌<◌, zero-le}
 use native.Mathlib.Numerals.{add-one}
 use native.Mathlib.Omega.{arith}
-use borrow.Author.Tests.{ltb-true, leb-true, le-leb, eq-eqb, ne_eqb}
+use borrow.Author.Tests.{ltb-true, leb-true, le-leb}
 use lib.Dec.{leb, ltb}
 use lib.ListN.{length, get_or}
 use Rattle.paper.specs.Limits.{slot_count_ok, number_of}
 use Rattle.paper.specs.Count.{all, sum}
-use Rattle.paper.proofs.Logic.{number-of-made, both, three}
+use Rattle.paper.proofs.Logic.{both, three}
 use Rattle.paper.proofs.Rows.{passed}
 use Rattle.paper.proofs.Count.{all_none, all-each, sum_more}
-use Rattle.slots.specs.declared.Minutes.TheVariants as minutes
 use Rattle.slots.specs.Lent.{slot_ok, prev_end, slot_ok_at, slot_room_ok, slots_ok, minutes_at, demand_of, demand_when_ok, SlotsSound}
 use Rattle.slots.specs.Inside.{slot_fits, slot_fits_at}
-use Rattle.slots.specs.Lent.{lent_row, minutes_as, minutes_refusal}
+use Rattle.slots.specs.Lent.{lent_row}
 
 -- ---- what one slot's test says
 
@@ -166,21 +165,6 @@ module _ (starts ends : List ℕ) (i total m : ℕ) (e : total ≡ sum i (minute
 
   pub turn-fits : (slots : ℕ) → slots_ok slots starts ends ≡ true → i < slots → total + m ≤ 100000000
   turn-fits slots ok h = omega (arith, turn-adds, demand-part slots starts ends ok (i + 1) (omega arith))
-
--- ---- the answer, by its number
-
-pub minutes-is : (n m : ℕ) → n ≡ m → n ≡ 0 → (k k' : ℕ) → k ≡ k' → minutes.Is k ≡ minutes_as m k'
-unfolding minutes_as
-minutes-is n m e z k k' q = simp (eq-eqb m 0 (sym e ∙ z)) (ap minutes.Is q)
-
-pub minutes-refusal : (n m : ℕ) → n ≡ m → (n ≡ 0 → ⊥) → (k : ℕ) → minutes.Refused n ≡ minutes_as m k
-unfolding minutes_as
-minutes-refusal n m e z k = simp (ne_eqb m 0 (λ q. z (e ∙ q))) (ap minutes.Refused e)
-
--- an answer has the number that it was made with
-pub minutes-said : (n m : ℕ) → minutes_refusal (minutes_as n m) ≡ n
-unfolding minutes_as
-minutes-said n m = number-of-made minutes_refusal n (minutes.Is m) (minutes.Refused n) refl refl
 
 -- demand of slots that pass
 pub when-ok : (slots : ℕ) (starts ends : List ℕ) → slots_ok slots starts ends ≡ true

@@ -1,4 +1,5 @@
 -- What the outcomes mean, slot by slot, and that only one fits. Assumes nothing.
+use Rattle.std.specs.Prelude.{Result}
 use mathlib.Core.Path.{◌≡◌, refl, sym, ap, ap₂, ◌∙◌}
 use mathlib.Core.Bool.{Bool, true, ◌&&◌, cond}
 use mathlib.Core.Logic.{⊎_elim}
@@ -14,7 +15,6 @@ use Rattle.paper.specs.Limits.{slot_count_ok}
 use Rattle.paper.specs.Count.{all, onto}
 use Rattle.paper.proofs.Logic.{by-test, lt-or-ge, below_suc, and-true, both, slot-count-says}
 use Rattle.paper.proofs.Count.{all_same, sum_same, length-onto}
-use Rattle.slotset.specs.declared.Number.{Number}
 use Rattle.slotset.specs.Slots.{slot, put_slot, put_slots, value_of}
 use Rattle.slotset.proofs.Puts.{slot-put, slot-puts-here, slot-puts-other, value-lt}
 use Rattle.slots.specs.Lent.{slot_ok, prev_end, slot_ok_at, slot_room_ok, slots_ok, minutes_at, demand_of}
@@ -203,12 +203,12 @@ atoms-count-ok cut slots starts ends ok few =
 -- ---- only one outcome fits
 
 -- merged_ranges
-pub one-merged-end : (x : MergedOut) (r r' : Number) (p p' s s' e e' : List ℕ) → MergedEnd x r p s e → MergedEnd x r' p' s' e'
+pub one-merged-end : (x : MergedOut) (r r' : Result ℕ ℕ) (p p' s s' e e' : List ℕ) → MergedEnd x r p s e → MergedEnd x r' p' s' e'
     → (r ≡ r') × (p ≡ p') × (s ≡ s') × (e ≡ e')
 one-merged-end x r r' p p' s s' e e' a b =
     (a.said ∙ sym b.said, a.persons ∙ sym b.persons, a.starts ∙ sym b.starts, a.ends ∙ sym b.ends)
 
 -- atomise
-pub one-atoms-end : (x : Atoms) (r r' : Number) (s s' e e' : List ℕ) → AtomsEnd x r s e → AtomsEnd x r' s' e'
+pub one-atoms-end : (x : Atoms) (r r' : Result ℕ ℕ) (s s' e e' : List ℕ) → AtomsEnd x r s e → AtomsEnd x r' s' e'
     → (r ≡ r') × (s ≡ s') × (e ≡ e')
 one-atoms-end x r r' s s' e e' a b = (a.said ∙ sym b.said, a.starts ∙ sym b.starts, a.ends ∙ sym b.ends)

@@ -1,4 +1,5 @@
 -- Merged ranges handed out: the columns written, and the outcome. Assumes nothing.
+use Rattle.std.specs.Prelude.{Ok, Err}
 use mathlib.Core.Path.{◌≡◌, refl, sym, ap, ap₂, ◌∙◌}
 use mathlib.Core.Bool.{true, false}
 use mathlib.Core.Logic.{⊎_elim}
@@ -10,13 +11,11 @@ use lib.Dec.{leb, ltb, eqb}
 use lib.ListN.{length, get_or, take, drop, set, length-append, length-drop, length-map, get_or-append}
 use lib.Seq.{length-take-le, get_or-take, ext_get_or, get_or-append-add, get_or-drop}
 use Rattle.paper.specs.Limits.{number_of}
-use Rattle.paper.specs.Rows.{unless}
+use Rattle.paper.specs.Rows.{unless, answer_as}
 use Rattle.paper.specs.Count.{over, onto}
 use Rattle.paper.proofs.Logic.{three, lt-or-ge}
 use Rattle.paper.proofs.Rows.{passed}
 use Rattle.paper.proofs.Count.{over-more, length_over, get_d_over, get_d-over-out, some_one}
-use Rattle.slotset.specs.declared.Number.TheVariants as number
-use Rattle.slotset.specs.Answers.{number_as}
 use Rattle.slots.specs.Ranges.{range_at, Ranges, ranges, covers, in_ranges}
 use Rattle.slots.specs.Merged.{merged_of, persons_of, starts_of, ends_of, Columns, merged_row, merged_ranges, MergedEnd}
 use Rattle.slots.specs.Inside.{person_of, start_of, end_of, opens, closes, packed_all, RangesSound, MergedFrom, TakenApart}
@@ -71,12 +70,10 @@ over-onto f a column n m same r =
     ∙ ap (λ (j : ℕ). get_or column j 0) q))
     (lt-or-ge i n))
 
--- and so are the first n entries of another list
-pub front-onto : (l a column : List ℕ) (n : ℕ) → take n l ≡ a → n ≤ length l → n ≤ length column
-    → over (λ k. get_or l k 0) n column ≡ onto a column
-front-onto l a column n e h r =
-    over-onto (λ k. get_or l k 0) a column n (sym (ap length e) ∙ length-take-le n l h)
-    (λ k b. sym (get_or-take n l k 0 b) ∙ ap (λ (x : List ℕ). get_or x k 0) e) r
+-- the first n entries of another list, copied over a column's
+pub front-onto : (l a column : List ℕ) (n : ℕ) → take n l ≡ a → n ≤ length l → take n l ++ drop n column ≡ onto a column
+unfolding onto
+front-onto l a column n e h = ap₂ (λ (w : List ℕ) (i : ℕ). w ++ drop i column) e (sym (length-take-le n l h) ∙ ap length e)
 
 -- ---- the list as the code holds it
 
@@ -127,22 +124,22 @@ merged-says people R out e =
 
 module _ (people : ℕ) (R : Ranges) (out : Columns) (no : ℕ) (e : no ≡ number_of (merged_row people R out)) where
   pub merged-refused : (no ≡ 0 → ⊥)
-      → MergedEnd (merged_ranges people R out) (number.Refused no) out.persons out.starts out.ends
-  unfolding merged_ranges number_as unless
+      → MergedEnd (merged_ranges people R out) (Err no) out.persons out.starts out.ends
+  unfolding merged_ranges answer_as unless
   merged-refused h =
       let z : eqb (number_of (merged_row people R out)) 0 ≡ false = ne_eqb _ _ (λ q. h (e ∙ q)) in
-      record { said = simp z (ap number.Refused e); persons = simp z; starts = simp z; ends = simp z }
+      record { said = simp z (ap Err e); persons = simp z; starts = simp z; ends = simp z }
 
   pub merged-done : no ≡ 0 → (keys : List ℕ) (n : ℕ) → MergedFrom R keys n → (p s f : List ℕ)
-      → TakenApart n keys out.persons out.starts out.ends p s f → MergedEnd (merged_ranges people R out) (number.Is n) p s f
-  unfolding merged_ranges number_as unless
+      → TakenApart n keys out.persons out.starts out.ends p s f → MergedEnd (merged_ranges people R out) (Ok n) p s f
+  unfolding merged_ranges answer_as unless
   merged-done h keys n M p s f T =
       let z : eqb (number_of (merged_row people R out)) 0 ≡ true = eq-eqb _ _ (sym e ∙ h) in
       let w = merged-says people R out (sym e ∙ h) in
       let S = w.0 in
       let few = M.few in
       record {
-        said = simp z (ap number.Is (sym (held-length R S keys n M)));
+        said = simp z (ap Ok (sym (held-length R S keys n M)));
         persons = simp z (T.persons ∙ held-persons R S keys n M out.persons (omega (arith, w.1)));
         starts = simp z (T.starts ∙ held-starts R S keys n M out.starts (omega (arith, w.2)));
         ends = simp z (T.ends ∙ held-ends R S keys n M out.ends (omega (arith, w.3)));
@@ -152,15 +149,6 @@ module _ (people : ℕ) (R : Ranges) (out : Columns) (no : ℕ) (e : no ≡ numb
 
 pub column-more : (f : ℕ → ℕ) (i x : ℕ) (old now : List ℕ) → now ≡ over f i old → x ≡ f i → set now i x ≡ over f (i + 1) old
 column-more f i x old now e d = ap₂ (λ (l : List ℕ) (y : ℕ). set l i y) e d ∙ sym (over-more f i old)
-
-pub column-length : (f : ℕ → ℕ) (i : ℕ) (old now : List ℕ) → now ≡ over f i old → length now ≡ length old
-column-length f i old now e = ap length e ∙ length_over f i old
-
-pub column-done : (f : ℕ → ℕ) (i n : ℕ) (old now : List ℕ) → now ≡ over f i old → i ≤ n → n ≤ i → now ≡ over f n old
-column-done f i n old now e a b = let q : i ≡ n = omega arith in e ∙ ap (λ (m : ℕ). over f m old) q
-
-pub column-room : (f : ℕ → ℕ) (i n : ℕ) (old now : List ℕ) → now ≡ over f i old → n ≤ length old → i < n → i < length now
-column-room f i n old now e a b = omega (arith, column-length f i old now e)
 
 -- what taking the list apart asks
 pub merged-work : (people : ℕ) (R : Ranges) (out : Columns) → number_of (merged_row people R out) ≡ 0

@@ -150,3 +150,13 @@ module _ (keys out : List ℕ) (z n i : ℕ) (inv : take n out ++ walk_on z (dro
     omega (arith, sym (length-append (take n out) (closed z [])) ∙ ap length end_is, length-take-le n out r),
     d ∙ end_is,
   )
+
+-- ---- what holds of the walk, i numbers on: the range held open is kept as where it opens on the line and the minute that it ends at
+
+pub record Walking (keys first list : List ℕ) (opened end count i : ℕ) : Type 0 where
+  pub within : i ≤ length keys
+  pub kept : length list ≡ length first
+  pub few : count ≤ length list
+  pub so-far : take count list ++ walk_on (opened * 268435456 + end) (drop i keys) ≡ walk_on 0 keys
+  pub opened-lt : opened < 68719476736
+  pub end-lt : end < 268435456

@@ -1,10 +1,8 @@
 -- Cuts, over minutes; and atomic slots: each base slot split at every cut strictly inside it. Assumes nothing.
-use Rattle.std.specs.Prelude.{◌≡◌, Bool, true, false, ◌&&◌, not, List, [], ◌∷◌, ◌++◌, ℕ, zero, suc, ◌<◌, leb, ltb, length, get_or}
+use Rattle.std.specs.Prelude.{◌≡◌, Bool, true, false, ◌&&◌, not, List, [], ◌∷◌, ◌++◌, ℕ, zero, suc, ◌<◌, leb, ltb, length, get_or, Result}
 use Rattle.paper.specs.Limits.{people_ok, slot_count_ok, slots_most, Test, test, number_of}
-use Rattle.paper.specs.Rows.{unless}
+use Rattle.paper.specs.Rows.{unless, answer_as}
 use Rattle.paper.specs.Count.{some, among, onto}
-use Rattle.slotset.specs.declared.Number.{Number}
-use Rattle.slotset.specs.Answers.{number_as}
 use Rattle.slots.specs.Lent.{slot_room_ok, slots_ok}
 use Rattle.slots.specs.Ranges.{Ranges, range_count_ok, range_room_ok, ranges_ok, in_ranges}
 
@@ -81,7 +79,7 @@ atomise_row B = base_row B ++ (test 5 (leb (length (starts_of_atoms B)) slots_mo
 
 -- the whole outcome: what is answered, and the two columns at exit
 pub record Atoms : Type 0 where
-  pub answer : Number
+  pub answer : Result ℕ ℕ
   pub starts : List ℕ
   pub ends : List ℕ
 
@@ -89,13 +87,13 @@ unfoldable pub atomise_of : Base → Atoms
 atomise_of B =
     let n = number_of (atomise_row B) in
     record {
-      answer = number_as n (length (starts_of_atoms B));
+      answer = answer_as n (length (starts_of_atoms B));
       starts = unless n B.out_starts (onto (starts_of_atoms B) B.out_starts);
       ends = unless n B.out_ends (onto (ends_of_atoms B) B.out_ends);
     }
 
 -- what is answered and what is left in the lent columns are those of the outcome
-pub record AtomsEnd (x : Atoms) (r : Number) (s e : List ℕ) : Type 0 where
+pub record AtomsEnd (x : Atoms) (r : Result ℕ ℕ) (s e : List ℕ) : Type 0 where
   pub said : r ≡ x.answer
   pub starts : s ≡ x.starts
   pub ends : e ≡ x.ends

@@ -1,10 +1,9 @@
 -- Availability of lent slots, one set a person; and its single question. Assumes nothing.
-use Rattle.std.specs.Prelude.{List, [], ◌∷◌, ℕ, zero, suc, ◌*◌, leb, ltb, length, get_or}
+use Rattle.std.specs.Prelude.{List, [], ◌∷◌, ℕ, zero, suc, ◌*◌, leb, ltb, length, get_or, Result, Bool}
 use Rattle.paper.specs.Limits.{set_words, people_ok, slot_count_ok, Test, test, number_of}
-use Rattle.paper.specs.Rows.{unless}
-use Rattle.slotset.specs.declared.YesNo.{YesNo}
+use Rattle.paper.specs.Rows.{unless, answer_as}
 use Rattle.slotset.specs.Slots.{put_slots, value_of, has}
-use Rattle.slotset.specs.Answers.{row_slots, yes_no_as}
+use Rattle.slotset.specs.Answers.{row_slots}
 use Rattle.slots.specs.Lent.{slot_room_ok, slots_ok}
 use Rattle.slots.specs.Ranges.{Ranges, range_count_ok, range_room_ok, ranges_ok, available}
 
@@ -37,6 +36,6 @@ available_row people slots words person slot =
     test 1 (people_ok people) ∷ test 1 (slot_count_ok slots) ∷ test 2 (leb (set_words * people) (length words)) ∷ test 11 (ltb person people)
     ∷ test 11 (ltb slot slots) ∷ []
 
-unfoldable pub is_available : ℕ → ℕ → List ℕ → ℕ → ℕ → YesNo
+unfoldable pub is_available : ℕ → ℕ → List ℕ → ℕ → ℕ → Result Bool ℕ
 is_available people slots words person slot =
-    yes_no_as (number_of (available_row people slots words person slot)) (has (row_slots words person) slots slot)
+    answer_as (number_of (available_row people slots words person slot)) (has (row_slots words person) slots slot)

@@ -1,11 +1,9 @@
 -- Freezing at an instant. Assumes nothing.
-use Rattle.std.specs.Prelude.{Bool, cond, List, [], ◌∷◌, ℕ, zero, suc, leb, length, get_or}
+use Rattle.std.specs.Prelude.{Bool, cond, List, [], ◌∷◌, ℕ, zero, suc, leb, length, get_or, Result}
 use Rattle.paper.specs.Limits.{slot_count_ok, set_words, Test, test, number_of}
-use Rattle.paper.specs.Rows.{unless}
+use Rattle.paper.specs.Rows.{unless, answer_as}
 use Rattle.paper.specs.Count.{count}
-use Rattle.slotset.specs.declared.Number.{Number}
 use Rattle.slotset.specs.Slots.{put_slot}
-use Rattle.slotset.specs.Answers.{number_as}
 use Rattle.slots.specs.Lent.{slot_room_ok, slots_ok}
 
 -- slot k ends at the instant or before it
@@ -30,10 +28,10 @@ freeze_row slots starts ends frozen =
 
 -- the whole outcome: what is answered, and the flags at exit
 pub record Frozen : Type 0 where
-  pub answer : Number
+  pub answer : Result ℕ ℕ
   pub flags : List ℕ
 
 unfoldable pub freeze_of : ℕ → List ℕ → List ℕ → List ℕ → ℕ → Frozen
 freeze_of slots starts ends frozen instant =
     let n = number_of (freeze_row slots starts ends frozen) in
-    record { answer = number_as n (ended_by slots ends instant); flags = unless n frozen (marked slots ends instant frozen) }
+    record { answer = answer_as n (ended_by slots ends instant); flags = unless n frozen (marked slots ends instant frozen) }

@@ -1,5 +1,5 @@
 -- What the contracts of private functions go by, and nothing else does: no public contract and no promise cites this file. Assumes nothing.
-use Rattle.std.specs.Prelude.{◌≡◌, Bool, true, false, ◌&&◌, ◌||◌, cond, List, [], ◌∷◌, ◌++◌, ℕ, zero, suc, ◌+◌, ◌-◌, ◌*◌, ◌/◌, ◌%◌, ◌≤◌, ◌<◌, max, leb, ltb, eqb, length, get_or, take}
+use Rattle.std.specs.Prelude.{◌≡◌, Bool, true, false, ◌&&◌, ◌||◌, cond, List, [], ◌∷◌, ◌++◌, ℕ, zero, suc, ◌+◌, ◌-◌, ◌*◌, ◌/◌, ◌%◌, ◌≤◌, ◌<◌, max, leb, ltb, eqb, length, get_or, take, Option, Some, None}
 use Rattle.paper.specs.Limits.{people_most, ranges_most, slots_most, last_minute}
 use Rattle.paper.specs.Count.{all, over, FirstWhere}
 use Rattle.slotset.specs.Slots.{value_of}
@@ -143,9 +143,9 @@ starts_or_ends t x = eqb (start_of x) t || eqb (end_of x) t
 unfoldable pub key_cut : List ℕ → ℕ → Bool
 key_cut merged t = any_of (starts_or_ends t) merged
 
--- a number of atomic slots, or one too many
-unfoldable pub or_full : ℕ → ℕ
-or_full n = cond (leb n slots_most) n 1025
+-- a number of atomic slots, where there is room for them
+unfoldable pub or_full : ℕ → Option ℕ
+or_full n = cond (leb n slots_most) (Some n) None
 
 -- r is the first cut strictly between two minutes, or the later of them
 abbrev pub NextCut : (ℕ → Bool) → ℕ → ℕ → ℕ → Type 0
@@ -182,10 +182,10 @@ unfoldable pub nearer : ℕ → ℕ → ℕ → ℕ
 nearer after best t = cond (ltb after t && ltb t best) t best
 
 -- lists that grew from s and e by the pieces a and b, where these fit
-pub record Grown (count : ℕ) (s e a b : List ℕ) (r : ℕ) (s' e' : List ℕ) : Type 0 where
+pub record Grown (count : ℕ) (s e a b : List ℕ) (r : Option ℕ) (s' e' : List ℕ) : Type 0 where
   pub number : r ≡ or_full (count + length a)
-  pub starts : count + length a ≤ slots_most → take r s' ≡ take count s ++ a
-  pub ends : count + length a ≤ slots_most → take r e' ≡ take count e ++ b
+  pub starts : count + length a ≤ slots_most → take (count + length a) s' ≡ take count s ++ a
+  pub ends : count + length a ≤ slots_most → take (count + length a) e' ≡ take count e ++ b
 
 -- ---- availability
 

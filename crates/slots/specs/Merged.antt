@@ -1,10 +1,8 @@
 -- Merged ranges: each person's sorted, empty ones dropped, touching or overlapping ones merged; in person order. Assumes nothing.
-use Rattle.std.specs.Prelude.{◌≡◌, Bool, true, false, ◌&&◌, ◌||◌, cond, List, [], ◌∷◌, ◌++◌, map, ℕ, zero, suc, ◌<◌, min, max, ltb, eqb, length}
+use Rattle.std.specs.Prelude.{◌≡◌, Bool, true, false, ◌&&◌, ◌||◌, cond, List, [], ◌∷◌, ◌++◌, map, ℕ, zero, suc, ◌<◌, min, max, ltb, eqb, length, Result}
 use Rattle.paper.specs.Limits.{people_ok, Test, test, number_of}
-use Rattle.paper.specs.Rows.{unless}
+use Rattle.paper.specs.Rows.{unless, answer_as}
 use Rattle.paper.specs.Count.{onto}
-use Rattle.slotset.specs.declared.Number.{Number}
-use Rattle.slotset.specs.Answers.{number_as}
 use Rattle.slots.specs.Ranges.{Range, Ranges, ranges, range_at, range_count_ok, range_room_ok, ranges_ok, covers}
 
 -- minute t of the person lies in one of a list of ranges
@@ -77,7 +75,7 @@ merged_row people R out =
 
 -- the whole outcome: what is answered, and the columns at exit
 pub record MergedOut : Type 0 where
-  pub answer : Number
+  pub answer : Result ℕ ℕ
   pub persons : List ℕ
   pub starts : List ℕ
   pub ends : List ℕ
@@ -87,14 +85,14 @@ merged_ranges people R out =
     let n = number_of (merged_row people R out) in
     let list = merged_of R in
     record {
-      answer = number_as n (length list);
+      answer = answer_as n (length list);
       persons = unless n out.persons (onto (persons_of list) out.persons);
       starts = unless n out.starts (onto (starts_of list) out.starts);
       ends = unless n out.ends (onto (ends_of list) out.ends);
     }
 
 -- what is answered and what is left in the lent columns are those of the outcome
-pub record MergedEnd (x : MergedOut) (r : Number) (p s e : List ℕ) : Type 0 where
+pub record MergedEnd (x : MergedOut) (r : Result ℕ ℕ) (p s e : List ℕ) : Type 0 where
   pub said : r ≡ x.answer
   pub persons : p ≡ x.persons
   pub starts : s ≡ x.starts

@@ -10,7 +10,7 @@ ghost use Rattle.slots.specs.Inside.{opens, SpacedKeys, Opening, reaches, held_b
 
 use crate::{lent, ranges};
 use paper::Refusal;
-use slotset::{YesNo, row};
+use slotset::row;
 
 // How many of the merged ranges open at a place of the line or before it, where the first `low` do: a walk on from there.
 fn opened_by_from(keys: &[u64], n: usize, low: usize, place: u64) -> usize
@@ -18,15 +18,12 @@ fn opened_by_from(keys: &[u64], n: usize, low: usize, place: u64) -> usize
     requires low_le_n { (low ≤ n) × ((k : ℕ) → k < low → opens (get_or keys.now k 0) ≤ place) }
     ensures { Opening n (λ k. opens (get_or keys.now k 0)) place result }
 {
-    let mut r = low;
-    while r < n {
-        if ranges::opens_at(keys[r]) <= place {
-            r += 1;
-        } else {
+    for r in low..n {
+        if place < ranges::opens_at(keys[r]) {
             return r;
         }
     }
-    r
+    n
 }
 
 // Whether the last of the first r merged ranges closes at a place or past it.
@@ -61,12 +58,10 @@ fn fill_row(
 {
     let base = (person as u64) * ranges::WIDTH;
     let mut opened: usize = 0;
-    let mut k: usize = 0;
-    while k < slots {
+    for k in 0..slots {
         opened = opened_by_from(keys, n, opened, base + starts[k] as u64);
         let want = reaches(keys, opened, base + ends[k] as u64);
         row::put_stretch(people, slots, words, person, k, k + 1, want);
-        k += 1;
     }
 }
 
@@ -86,10 +81,8 @@ fn fill_rows(
     ensures { words.new ≡ rows (held_bit (take n keys.now) starts.now ends.now)
         slots people words.old }
 {
-    let mut person: usize = 0;
-    while person < people {
+    for person in 0..people {
         fill_row(keys, n, slots, starts, ends, words, people, person);
-        person += 1;
     }
 }
 
@@ -167,12 +160,18 @@ fn available_refusal(
 }
 
 // May this person cover this slot? Refusals 1, 2, 11.
-pub fn is_available(people: usize, slots: usize, avail: &[u64], person: usize, slot: usize) -> YesNo
+pub fn is_available(
+    people: usize,
+    slots: usize,
+    avail: &[u64],
+    person: usize,
+    slot: usize,
+) -> Result<bool, u8>
     ensures { result ≡ is_available people slots avail.now person slot }
 {
     let number = available_refusal(people, slots, avail, person, slot).number;
     if number == 0 {
         return row::contains(people, slots, avail, person, slot);
     }
-    YesNo::Refused(number)
+    Err(number)
 }

@@ -6,7 +6,7 @@ ghost use Rattle.slots.specs.Inside.{Opening};
 
 use crate::lent;
 use paper::Refusal;
-use slotset::{Number, row};
+use slotset::row;
 
 // How many slots end at the instant or before it: they open the list, since ends ascend.
 fn ended_by(slots: usize, ends: &[u32], instant: u32) -> usize
@@ -14,17 +14,7 @@ fn ended_by(slots: usize, ends: &[u32], instant: u32) -> usize
         × ((k j : ℕ) → k < j → j < slots → get_or ends.now k 0 ≤ get_or ends.now j 0) }
     ensures { Opening slots (λ k. get_or ends.now k 0) instant result }
 {
-    let mut low: usize = 0;
-    let mut high = slots;
-    while low < high {
-        let middle = (low + high) / 2;
-        if ends[middle] <= instant {
-            low = middle + 1;
-        } else {
-            high = middle;
-        }
-    }
-    low
+    ends[..slots].partition_point(|end| *end <= instant)
 }
 
 // What is wrong with what freezing takes: 1, 2 or 9.
@@ -44,7 +34,7 @@ pub fn freeze_before(
     ends: &[u32],
     frozen: &mut [u64],
     instant: u32,
-) -> Number
+) -> Result<usize, u8>
     ensures { (result ≡ (freeze_of slots starts.now ends.now frozen.old instant).answer)
         × (frozen.new ≡ (freeze_of slots starts.now ends.now frozen.old instant).flags) }
 {
@@ -52,7 +42,7 @@ pub fn freeze_before(
     if number == 0 {
         let n = ended_by(slots, ends, instant);
         row::put_stretch(1, slots, frozen, 0, 0, n, true);
-        return Number::Is(n);
+        return Ok(n);
     }
-    Number::Refused(number)
+    Err(number)
 }

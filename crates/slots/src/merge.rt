@@ -7,7 +7,6 @@ ghost use Rattle.slots.specs.Inside.{person_of, TakenApart};
 
 use crate::ranges;
 use paper::Refusal;
-use slotset::Number;
 
 // What is wrong with what merging takes: 1, 2 or 4.
 fn merged_refusal(
@@ -37,13 +36,11 @@ fn take_apart(keys: &[u64], n: usize, whose: &mut [u16], froms: &mut [u32], tos:
     ensures { TakenApart n keys.now whose.old froms.old tos.old
         whose.new froms.new tos.new }
 {
-    let mut i: usize = 0;
-    while i < n {
+    for i in 0..n {
         let key = keys[i];
         whose[i] = ranges::person_of(key) as u16;
         froms[i] = ranges::start_of(key) as u32;
         tos[i] = ranges::end_of(key) as u32;
-        i += 1;
     }
 }
 
@@ -58,7 +55,7 @@ pub fn merged_ranges(
     whose: &mut [u16],
     froms: &mut [u32],
     tos: &mut [u32],
-) -> Number
+) -> Result<usize, u8>
     ensures { MergedEnd
         (merged_ranges people (ranges count persons.now opens.now shuts.now)
         (columns whose.old froms.old tos.old))
@@ -70,7 +67,7 @@ pub fn merged_ranges(
         let keys = list.keys;
         let n = list.count;
         take_apart(&keys, n, whose, froms, tos);
-        return Number::Is(n);
+        return Ok(n);
     }
-    Number::Refused(number)
+    Err(number)
 }

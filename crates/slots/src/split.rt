@@ -1,6 +1,5 @@
 // Atomic slots: each base slot split at every cut strictly inside it. Cuts are found as the starts and ends of merged ranges.
-ghost use Rattle.std.specs.Prelude.{◌≡◌, ◌∷◌, [], ◌++◌, ◌≤◌, ◌<◌, length, get_or, take};
-ghost use Rattle.paper.specs.Count.{over};
+ghost use Rattle.std.specs.Prelude.{◌≡◌, ◌∷◌, [], ◌++◌, ◌≤◌, ◌<◌, length, get_or, take, drop};
 ghost use Rattle.paper.specs.Rows.{refusal_of};
 ghost use Rattle.slots.specs.Lent.{SlotsSound};
 ghost use Rattle.slots.specs.Ranges.{ranges};
@@ -9,7 +8,6 @@ ghost use Rattle.slots.specs.Inside.{NextCut, key_cut, nearer, Grown, HeldMerged
 
 use crate::{lent, ranges};
 use paper::Refusal;
-use slotset::Number;
 
 // A minute, where it lies strictly between two others; else the later of them.
 fn nearer_of(after: u64, best: u64, t: u64) -> u64
@@ -62,18 +60,16 @@ fn next_cut(keys: &[u64], n: usize, after: u64, end: u64) -> u64
 {
     let mut best = end;
     let mut opened: usize = 0;
-    let mut person: u64 = 0;
-    while person < 32 {
+    for person in 0..32u64 {
         let base = person * ranges::WIDTH;
         opened = ranges::opened_by(keys, n, opened, base + after);
         let edge = next_edge(keys, n, opened, base + after);
         best = nearer_of(after, best, edge - base);
-        person += 1;
     }
     best
 }
 
-// The pieces of one base slot go to the lists' ends. Gives the number in the lists then, or 1,025 where there is no room.
+// The pieces of one base slot go to the lists' ends. Gives the number in the lists then; None where there is no room.
 fn split_slot(
     keys: &[u64],
     n: usize,
@@ -82,7 +78,7 @@ fn split_slot(
     starts: &mut [u32],
     ends: &mut [u32],
     count: usize,
-) -> usize
+) -> Option<usize>
     requires held_merged { HeldMerged keys.now n × (start < end) × (end ≤ 100000000) }
     requires count_bound { (count ≤ 1024) × (1024 ≤ length starts.old) × (1024 ≤ length ends.old) }
     ensures { Grown count starts.old ends.old
@@ -91,22 +87,19 @@ fn split_slot(
         result starts.new ends.new }
 {
     let mut prev = start;
-    let mut m = count;
-    while m < paper::SLOTS_MOST {
+    for m in count..paper::SLOTS_MOST {
         let cut = next_cut(keys, n, prev as u64, end as u64) as u32;
         starts[m] = prev;
         ends[m] = cut;
-        m += 1;
-        if cut < end {
-            prev = cut;
-        } else {
-            return m;
+        if end <= cut {
+            return Some(m + 1);
         }
+        prev = cut;
     }
-    1025
+    None
 }
 
-// The pieces of all base slots. Gives their number, or 1,025 where there is no room.
+// The pieces of all base slots. Gives their number; None where there is no room.
 fn split_all(
     keys: &[u64],
     n: usize,
@@ -115,7 +108,7 @@ fn split_all(
     ends: &[u32],
     froms: &mut [u32],
     tos: &mut [u32],
-) -> usize
+) -> Option<usize>
     requires held_merged { HeldMerged keys.now n × SlotsSound slots starts.now ends.now }
     requires slots_bound { (slots ≤ 1024) × (1024 ≤ length froms.old) × (1024 ≤ length tos.old) }
     ensures { Grown 0 froms.old tos.old
@@ -123,28 +116,19 @@ fn split_all(
         (atom_ends (key_cut (take n keys.now)) slots starts.now ends.now)
         result froms.new tos.new }
 {
-    let mut i: usize = 0;
     let mut count: usize = 0;
-    while i < slots {
-        count = split_slot(keys, n, starts[i], ends[i], froms, tos, count);
-        if paper::SLOTS_MOST < count {
-            return count;
-        }
-        i += 1;
+    for i in 0..slots {
+        count = split_slot(keys, n, starts[i], ends[i], froms, tos, count)?;
     }
-    count
+    Some(count)
 }
 
 // The first n entries of one column go to another.
 fn copy_column(src: &[u32], n: usize, column: &mut [u32])
-    requires { (n ≤ 1024) × (n ≤ length src.now) × (n ≤ length column.old) }
-    ensures { column.new ≡ over (λ k. get_or src.now k 0) n column.old }
+    requires { (n ≤ length src.now) × (n ≤ length column.old) }
+    ensures { column.new ≡ take n src.now ++ drop n column.old }
 {
-    let mut i: usize = 0;
-    while i < n {
-        column[i] = src[i];
-        i += 1;
-    }
+    column[..n].copy_from_slice(&src[..n]);
 }
 
 // A column with nothing in it yet.
@@ -190,7 +174,7 @@ pub fn atomise(
     shuts: &[u32],
     froms: &mut [u32],
     tos: &mut [u32],
-) -> Number
+) -> Result<usize, u8>
     ensures { AtomsEnd
         (atomise_of (base slots starts.now ends.now people
         (ranges count persons.now opens.now shuts.now) froms.old tos.old))
@@ -206,13 +190,12 @@ pub fn atomise(
         let n = list.count;
         let mut s = blank_column();
         let mut e = blank_column();
-        let atoms = split_all(&keys, n, slots, starts, ends, &mut s, &mut e);
-        if atoms <= paper::SLOTS_MOST {
-            copy_column(&s, atoms, froms);
-            copy_column(&e, atoms, tos);
-            return Number::Is(atoms);
-        }
-        return Number::Refused(5);
+        let Some(atoms) = split_all(&keys, n, slots, starts, ends, &mut s, &mut e) else {
+            return Err(5);
+        };
+        copy_column(&s, atoms, froms);
+        copy_column(&e, atoms, tos);
+        return Ok(atoms);
     }
-    Number::Refused(number)
+    Err(number)
 }

@@ -1,4 +1,5 @@
 -- The list of all runs in two columns from an entry on, filled run by run; and everybody's, person by person. Assumes nothing.
+use Rattle.std.specs.Prelude.{Option, Some, None}
 use mathlib.Core.Path.{◌≡◌, refl, sym, ap, ap₂, ◌∙◌, subst}
 use mathlib.Core.List.{List, [], ◌∷◌, ◌++◌}
 use Prim.Native.Nat.{ℕ, zero, suc, ◌+◌, ◌-◌, ◌*◌, ◌≤◌, ◌<◌}
@@ -11,8 +12,6 @@ use Rattle.paper.specs.Limits.{number_of}
 use Rattle.paper.proofs.Count.{over-more, length_over}
 use Rattle.paper.proofs.Rows.{passed}
 use Rattle.paper.proofs.Logic.{people-says}
-use Rattle.slotset.specs.declared.Found.{Found}
-use Rattle.slotset.specs.declared.Found.TheVariants.{At, Nothing, Refused}
 use Rattle.slotset.specs.Slots.{Bits}
 use Rattle.slotset.specs.Search.{First, next_set}
 use Rattle.slotset.specs.Runs.{Ends, when_found, last_around, runs, ends_of_runs}
@@ -70,7 +69,7 @@ pub record Given (f : ℕ → ℕ) (len at first last : ℕ) : Type 0 where
   pub head : (m : ℕ) → runs (suc m) f len at ≡ record { first = first; last = last } ∷ runs m f len (last + 1)
 
 module _ (f : ℕ → ℕ) (bits : Bits f) (len at : ℕ) where
-  pub given : (first last : ℕ) → next_set f len at ≡ At first → last ≡ last_around 1 f len first → Given f len at first last
+  pub given : (first last : ℕ) → next_set f len at ≡ Some first → last ≡ last_around 1 f len first → Given f len at first last
   unfolding runs
   given first last e q =
       let w = subst (First 1 f len at) e (next-is 1 f len at) in
@@ -80,20 +79,16 @@ module _ (f : ℕ → ℕ) (bits : Bits f) (len at : ℕ) where
         to = omega (arith, r.to, q);
         fits = omega (arith, r.fits, q);
         head = λ m.
-            ap (λ (x : Found). when_found x (λ lo. record { first = lo; last = last_around 1 f len lo } ∷ runs m f len (last_around 1 f len lo + 1))) e
+            ap (λ (x : Option ℕ). when_found x (λ lo. record { first = lo; last = last_around 1 f len lo } ∷ runs m f len (last_around 1 f len lo + 1))) e
             ∙ ap {B = List Ends} (λ (x : ℕ). record { first = first; last = x } ∷ runs m f len (x + 1)) (sym q);
       }
 
   -- none is left
-  pub none_left : (m : ℕ) → next_set f len at ≡ Nothing → runs m f len at ≡ []
+  pub none_left : (m : ℕ) → next_set f len at ≡ None → runs m f len at ≡ []
   unfolding runs
   none_left zero e = refl
   none_left (suc m) e =
-      ap (λ (x : Found). when_found x (λ lo. record { first = lo; last = last_around 1 f len lo } ∷ runs m f len (last_around 1 f len lo + 1))) e
-
-  -- a search doesn't refuse
-  pub not-refused : (k : ℕ) → next_set f len at ≡ Refused k → ⊥
-  not-refused k e = subst (First 1 f len at) e (next-is 1 f len at)
+      ap (λ (x : Option ℕ). when_found x (λ lo. record { first = lo; last = last_around 1 f len lo } ∷ runs m f len (last_around 1 f len lo + 1))) e
 
 pub record Filling (f : ℕ → ℕ) (len from : ℕ) (fs ls : List ℕ) (n at : ℕ) (fs' ls' : List ℕ) : Type 0 where
   pub start : from ≤ n
@@ -161,11 +156,10 @@ unfolding runs
 runs-few zero f len at = omega arith
 runs-few (suc m) f len at = by-found (λ at. runs-few m f len at) (next_set f len at)
   where
-    by-found : ((at : ℕ) → length (runs m f len at) ≤ m) → (r : Found)
+    by-found : ((at : ℕ) → length (runs m f len at) ≤ m) → (r : Option ℕ)
         → length (when_found r (λ lo. record { first = lo; last = last_around 1 f len lo } ∷ runs m f len (last_around 1 f len lo + 1))) ≤ suc m
-    by-found few (At lo) = omega (arith, few (last_around 1 f len lo + 1))
-    by-found few Nothing = omega arith
-    by-found few (Refused k) = omega arith
+    by-found few (Some lo) = omega (arith, few (last_around 1 f len lo + 1))
+    by-found few None = omega arith
 
 -- ---- everybody's while it is filled: those of the first p people stand there
 

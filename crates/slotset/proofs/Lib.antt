@@ -4,7 +4,6 @@ pub mod Scans
 pub mod Skips
 pub mod Counts
 pub mod Puts
-pub mod Lists
 pub mod Meaning
 pub mod Refusals
 pub mod Runs

@@ -1,6 +1,7 @@
 -- What each row of tests says where nothing is refused, and how an answer follows from the number. Assumes nothing.
+use Rattle.std.specs.Prelude.{Ok, Err}
 use mathlib.Core.Path.{◌≡◌, refl, sym, ap, ap₂, ◌∙◌}
-use mathlib.Core.Bool.{Bool, true, false, cond}
+use mathlib.Core.Bool.{true}
 use mathlib.Core.List.{List}
 use Prim.Native.Nat.{ℕ, ◌+◌, ◌-◌, ◌*◌, ◌≤◌, ◌<◌}
 use native.Mathlib.Omega.{arith}
@@ -8,22 +9,14 @@ use borrow.Author.Tests.{leb-true, ltb-true, le-leb, lt-leb, lt-ltb}
 use lib.Dec.{leb}
 use lib.ListN.{length}
 use Rattle.paper.specs.Limits.{people_ok, number_of}
-use Rattle.paper.specs.Rows.{unless}
+use Rattle.paper.specs.Rows.{unless, answer_as, answer_refusal}
 use Rattle.paper.proofs.Rows.{passed, all_pass, worked, kept}
 use Rattle.paper.proofs.Logic.{number-of-made, or_right, or-second, people-says}
 use Rattle.slotset.specs.declared.SlotSet.{SlotSet}
 use Rattle.slotset.specs.declared.Changed.{Changed}
-use Rattle.slotset.specs.declared.Found.{Found}
-use Rattle.slotset.specs.declared.Found.TheVariants as found
-use Rattle.slotset.specs.declared.YesNo.TheVariants as yes_no
-use Rattle.slotset.specs.declared.Number.TheVariants as number
-use Rattle.slotset.specs.declared.Run.TheVariants as run
-use Rattle.slotset.specs.declared.NextRun.TheVariants as next_run
-use Rattle.slotset.specs.declared.NextMember.TheVariants as next_member
 use Rattle.slotset.specs.Slots.{put_slots}
 use Rattle.slotset.specs.Answers.{length_row, slot_row, stretch_ok, stretch_row, set_row, sets_row, same_sets_row, person_row, person_stretch_row}
-use Rattle.slotset.specs.Answers.{found_as, yes_no_as, number_as, run_as, next_run_as, next_member_as, changed_as, row_stretch_of}
-use Rattle.slotset.specs.Answers.{yes_no_refusal, number_refusal}
+use Rattle.slotset.specs.Answers.{changed_as, row_stretch_of}
 
 -- ---- where nothing is refused
 
@@ -129,25 +122,9 @@ module _ (n m : ℕ) (e : n ≡ m) where
     pub work-is : {A : Type 0} (old new x : A) → x ≡ new → x ≡ unless m old new
     work-is old new x q = q ∙ sym (worked m old new (sym e ∙ z))
 
-    pub found-is : (x y : Found) → x ≡ y → x ≡ found_as m y
-    unfolding found_as
-    found-is x y q = work-is (found.Refused m) y x q
-
-    pub yes-no-is : (b b' : Bool) → b ≡ b' → yes_no_as 0 b ≡ yes_no_as m b'
-    yes-no-is b b' q = ap₂ yes_no_as (sym z ∙ e) q
-
-    pub number_is : (k k' : ℕ) → k ≡ k' → number.Is k ≡ number_as m k'
-    unfolding number_as
-    number_is k k' q = work-is (number.Refused m) (number.Is k') (number.Is k) (ap number.Is q)
-
-    pub run_is : (f : ℕ → ℕ) (len i : ℕ) → run_as 0 f len i ≡ run_as m f len i
-    run_is f len i = ap (λ (x : ℕ). run_as x f len i) (sym z ∙ e)
-
-    pub next-run-is : (f : ℕ → ℕ) (len at : ℕ) → next_run_as 0 f len at ≡ next_run_as m f len at
-    next-run-is f len at = ap (λ (x : ℕ). next_run_as x f len at) (sym z ∙ e)
-
-    pub next-member-is : (f : ℕ → ℕ) (len at : ℕ) → next_member_as 0 f len at ≡ next_member_as m f len at
-    next-member-is f len at = ap (λ (x : ℕ). next_member_as x f len at) (sym z ∙ e)
+    pub answer-is : {A : Type 0} (x y : A) → x ≡ y → Ok x ≡ answer_as m y
+    unfolding answer_as
+    answer-is x y q = work-is (Err m) (Ok y) (Ok x) (ap Ok q)
 
     pub changed-is : (old : SlotSet) (ws vs : List ℕ) (len : ℕ) → ws ≡ vs
         → ◌≡◌ {A = Changed} (record { set = record { words = ws; len = len }; number = n })
@@ -163,32 +140,9 @@ module _ (n m : ℕ) (e : n ≡ m) where
     pub old-is : {A : Type 0} (old new : A) → old ≡ unless m old new
     old-is old new = sym (kept m old new (λ q. z (e ∙ q)))
 
-    refusal_is : {A : Type 0} (refused : ℕ → A) (new : A) → refused n ≡ unless m (refused m) new
-    refusal_is refused new = ap refused e ∙ old-is (refused m) new
-
-    pub found-refused : (y : Found) → found.Refused n ≡ found_as m y
-    unfolding found_as
-    found-refused y = refusal_is found.Refused y
-
-    pub yes-no-refused : (b : Bool) → yes_no.Refused n ≡ yes_no_as m b
-    unfolding yes_no_as
-    yes-no-refused b = refusal_is yes_no.Refused (cond b yes_no.Yes yes_no.No)
-
-    pub number-refused : (k : ℕ) → number.Refused n ≡ number_as m k
-    unfolding number_as
-    number-refused k = refusal_is number.Refused (number.Is k)
-
-    pub run-refused : (f : ℕ → ℕ) (len i : ℕ) → run.Refused n ≡ run_as m f len i
-    unfolding run_as
-    run-refused f len i = refusal_is run.Refused _
-
-    pub next-run-refused : (f : ℕ → ℕ) (len at : ℕ) → next_run.Refused n ≡ next_run_as m f len at
-    unfolding next_run_as
-    next-run-refused f len at = refusal_is next_run.Refused _
-
-    pub next-member-refused : (f : ℕ → ℕ) (len at : ℕ) → next_member.Refused n ≡ next_member_as m f len at
-    unfolding next_member_as
-    next-member-refused f len at = refusal_is next_member.Refused _
+    pub answer-refused : {A : Type 0} (x : A) → Err n ≡ answer_as m x
+    unfolding answer_as
+    answer-refused x = ap Err e ∙ old-is (Err m) (Ok x)
 
     pub changed-refused : (s new : SlotSet) → ◌≡◌ {A = Changed} (record { set = s; number = n }) (changed_as m s new)
     unfolding changed_as
@@ -196,14 +150,6 @@ module _ (n m : ℕ) (e : n ≡ m) where
 
 -- ---- an answer has the number that it was made with
 
-pub number-said : (n k : ℕ) → number_refusal (number_as n k) ≡ n
-unfolding number_as unless
-number-said n k = number-of-made number_refusal n (number.Is k) (number.Refused n) refl refl
-
-yes_or_no : (b : Bool) → yes_no_refusal (cond b yes_no.Yes yes_no.No) ≡ 0
-yes_or_no true = refl
-yes_or_no false = refl
-
-pub yes-no-said : (n : ℕ) (b : Bool) → yes_no_refusal (yes_no_as n b) ≡ n
-unfolding yes_no_as unless
-yes-no-said n b = number-of-made yes_no_refusal n (cond b yes_no.Yes yes_no.No) (yes_no.Refused n) (yes_or_no b) refl
+pub answer-said : {A : Type 0} (n : ℕ) (x : A) → answer_refusal (answer_as n x) ≡ n
+unfolding answer_as unless
+answer-said n x = number-of-made answer_refusal n (Ok x) (Err n) refl refl

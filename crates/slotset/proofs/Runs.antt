@@ -1,4 +1,5 @@
--- Runs and holes: what `run_as` and the reader give, said of every slot, and the list of all runs. Assumes nothing.
+-- Runs and holes: what `run_at` and the reader give, said of every slot, and the list of all runs. Assumes nothing.
+use Rattle.std.specs.Prelude.{Option, Some, None}
 use mathlib.Core.Path.{◌≡◌, refl, sym, ap, ap₂, ◌∙◌, subst}
 use mathlib.Core.Bool.{Bool, true, false, ◌&&◌, not, cond}
 use mathlib.Core.List.{List, [], ◌∷◌}
@@ -9,17 +10,14 @@ use native.Mathlib.Numerals.{add-one}
 use native.Mathlib.Omega.{arith}
 use borrow.Author.Tests.{lt-ltb, le-ltb, eq-eqb, ne_eqb, ltb-true, eqb-true}
 use lib.Dec.{ltb, eqb}
-use Rattle.paper.specs.Rows.{unless}
 use Rattle.paper.proofs.Logic.{lt-or-ge, both, zero_of}
-use Rattle.slotset.specs.declared.Found.{Found}
-use Rattle.slotset.specs.declared.Found.TheVariants.{At, Nothing, Refused}
 use Rattle.slotset.specs.declared.Run.{Run}
 use Rattle.slotset.specs.declared.Run.TheVariants as run
 use Rattle.slotset.specs.Slots.{Bits, Member, value_of, has}
 use Rattle.slotset.specs.Search.{First, Last, next_set, next_with, last_below}
 use Rattle.slotset.specs.Inside.{Above}
 use Rattle.slotset.specs.Runs.{start_of, end_of, first_around, last_around, Around, Ends, when_found, runs, AreRuns, InRuns, Among}
-use Rattle.slotset.specs.Answers.{stretch_as, run_as, Holds}
+use Rattle.slotset.specs.Answers.{stretch_as, run_at, Holds}
 use Rattle.slotset.proofs.Meaning.{next-is, last-is, next-same, last-same}
 
 -- membership, as a fact and as a test
@@ -33,20 +31,17 @@ member-has f len i m = simp (lt-ltb i len m.0, eq-eqb (f i) 1 m.1)
 
 -- ---- what the code asks of what was found
 
-pub start-le : (v : ℕ) (f : ℕ → ℕ) (len end : ℕ) (r : Found) → Last v f len end r → start_of r ≤ len
-start-le v f len end (At i) w = omega (arith, w.1)
-start-le v f len end Nothing w = omega arith
-start-le v f len end (Refused n) w = absurd w
+pub start-le : (v : ℕ) (f : ℕ → ℕ) (len end : ℕ) (r : Option ℕ) → Last v f len end r → start_of r ≤ len
+start-le v f len end (Some i) w = omega (arith, w.1)
+start-le v f len end None w = omega arith
 
-pub first_above : (v : ℕ) (f : ℕ → ℕ) (len from : ℕ) (r : Found) → First v f len from r → 0 < from → Above 0 r
-first_above v f len from (At i) w h = omega (arith, w.0)
-first_above v f len from Nothing w h = tt
-first_above v f len from (Refused n) w h = tt
+pub first_above : (v : ℕ) (f : ℕ → ℕ) (len from : ℕ) (r : Option ℕ) → First v f len from r → 0 < from → Above 0 r
+first_above v f len from (Some i) w h = omega (arith, w.0)
+first_above v f len from None w h = tt
 
-pub end_lt : (v : ℕ) (f : ℕ → ℕ) (len from : ℕ) (r : Found) → First v f len from r → 0 < len → end_of len r < len
-end_lt v f len from (At i) w h = omega (arith, w.1)
-end_lt v f len from Nothing w h = omega arith
-end_lt v f len from (Refused n) w h = absurd w
+pub end_lt : (v : ℕ) (f : ℕ → ℕ) (len from : ℕ) (r : Option ℕ) → First v f len from r → 0 < len → end_of len r < len
+end_lt v f len from (Some i) w h = omega (arith, w.1)
+end_lt v f len from None w h = omega arith
 
 pub next-after : (v : ℕ) (f : ℕ → ℕ) (len i : ℕ) → next_with v f len (i + 1) ≡ next_with v f len (suc i)
 next-after v f len i = ap (next_with v f len) (add-one i)
@@ -80,9 +75,9 @@ is-bit : (v x : ℕ) → v < 2 → x < 2 → (x ≡ 1 - v → ⊥) → x ≡ v
 is-bit v x small bit other = omega (arith, other)
 
 module _ (v : ℕ) (small : v < 2) (f : ℕ → ℕ) (bits : Bits f) (len i : ℕ) (m : (i < len) × (f i ≡ v)) where
-  left-side : (p : Found) → Last (1 - v) f len i p
+  left-side : (p : Option ℕ) → Last (1 - v) f len i p
       → (start_of p ≤ i) × ((k : ℕ) → start_of p ≤ k → k ≤ i → f k ≡ v) × (0 < start_of p → f (start_of p - 1) ≡ 1 - v)
-  left-side (At p) l =
+  left-side (Some p) l =
       let q : p + 1 - 1 ≡ p = omega arith in (
         omega (arith, l.0),
         λ k a b. ⊎_elim
@@ -90,19 +85,18 @@ module _ (v : ℕ) (small : v < 2) (f : ℕ → ℕ) (bits : Bits f) (len i : �
             (λ (x : i ≤ k). let e : k ≡ i = omega arith in ap f e ∙ m.1) (lt-or-ge k i),
         λ h. ap f q ∙ l.2,
       )
-  left-side Nothing l = (
+  left-side None l = (
     omega arith,
     λ k a b. ⊎_elim
         (λ (x : k < i). is-bit v (f k) small (bits k) (l k x (omega (arith, m.0))))
         (λ (x : i ≤ k). let e : k ≡ i = omega arith in ap f e ∙ m.1) (lt-or-ge k i),
     λ h. let z : ⊥ = omega arith in absurd z,
   )
-  left-side (Refused n) l = absurd l
 
-  right_side : (n : Found) → First (1 - v) f len (suc i) n
+  right_side : (n : Option ℕ) → First (1 - v) f len (suc i) n
       → (i ≤ end_of len n) × (end_of len n < len) × ((k : ℕ) → i ≤ k → k ≤ end_of len n → f k ≡ v)
       × (end_of len n + 1 < len → f (end_of len n + 1) ≡ 1 - v)
-  right_side (At n) w =
+  right_side (Some n) w =
       let q : n - 1 + 1 ≡ n = omega (arith, w.0) in (
         omega (arith, w.0),
         omega (arith, w.1),
@@ -111,7 +105,7 @@ module _ (v : ℕ) (small : v < 2) (f : ℕ → ℕ) (bits : Bits f) (len i : �
             (λ (x : k ≤ i). let e : k ≡ i = omega arith in ap f e ∙ m.1) (lt-or-ge i k),
         λ h. ap f q ∙ w.2,
       )
-  right_side Nothing w = (
+  right_side None w = (
     omega (arith, m.0),
     omega (arith, m.0),
     λ k a b. ⊎_elim
@@ -119,7 +113,6 @@ module _ (v : ℕ) (small : v < 2) (f : ℕ → ℕ) (bits : Bits f) (len i : �
         (λ (x : k ≤ i). let e : k ≡ i = omega arith in ap f e ∙ m.1) (lt-or-ge i k),
     λ h. let z : ⊥ = omega (arith, m.0) in absurd z,
   )
-  right_side (Refused n) w = absurd w
 
   -- what lies between the nearest slots of the other value is a maximal stretch
   pub stretch-around : Around v f len i (first_around v f len i) (last_around v f len i)
@@ -183,24 +176,24 @@ module _ (v : ℕ) (f : ℕ → ℕ) (len i : ℕ) where
   stretch-hole e = ap stretch_if (sym (ne_eqb v 1 (λ q. omega arith)))
 
 module _ (f : ℕ → ℕ) (len i : ℕ) where
-  pub answers-below : i < len → run_as 0 f len i ≡ stretch_as (f i) f len i
-  unfolding run_as unless
+  pub answers-below : i < len → run_at f len i ≡ stretch_as (f i) f len i
+  unfolding run_at
   answers-below h = ap (λ (b : Bool). cond b (stretch_as (f i) f len i) run.Outside) (lt-ltb i len h)
 
-  pub answers-outside : len ≤ i → run_as 0 f len i ≡ run.Outside
-  unfolding run_as unless
+  pub answers-outside : len ≤ i → run_at f len i ≡ run.Outside
+  unfolding run_at
   answers-outside h = ap (λ (b : Bool). cond b (stretch_as (f i) f len i) run.Outside) (le-ltb i len h)
 
-  pub answers-run : Member f len i → run_as 0 f len i ≡ run.Span (first_around 1 f len i) (last_around 1 f len i)
+  pub answers-run : Member f len i → run_at f len i ≡ run.Span (first_around 1 f len i) (last_around 1 f len i)
   unfolding stretch_as
   answers-run m = answers-below m.0 ∙ ap (λ (v : ℕ). stretch_as v f len i) m.1
 
-  pub answers-hole : (i < len) × (f i ≡ 0) → run_as 0 f len i ≡ run.Hole (first_around 0 f len i) (last_around 0 f len i)
+  pub answers-hole : (i < len) × (f i ≡ 0) → run_at f len i ≡ run.Hole (first_around 0 f len i) (last_around 0 f len i)
   unfolding stretch_as
   answers-hole m = answers-below m.0 ∙ ap (λ (v : ℕ). stretch_as v f len i) m.1
 
   -- it is the stretch that holds the slot
-  pub lookup-is : Bits f → Holds f len i (run_as 0 f len i)
+  pub lookup-is : Bits f → Holds f len i (run_at f len i)
   lookup-is bits =
       ⊎_elim
       (λ (h : i < len). elim (ℕ_discrete (f i) 1) [
@@ -217,7 +210,7 @@ module _ (f : ℕ → ℕ) (len i : ℕ) where
   around-slot v a b x = (omega (arith, x.to, x.fits), x.all i x.from x.to)
 
   -- and no other answer is
-  pub lookup-unique : Bits f → (r : Run) → Holds f len i r → r ≡ run_as 0 f len i
+  pub lookup-unique : Bits f → (r : Run) → Holds f len i r → r ≡ run_at f len i
   lookup-unique bits (run.Span a b) x =
       let m = around-slot 1 a b x in
       let u = around-unique 1 f len i a b _ _ x (run-around f bits len i m) in
@@ -227,15 +220,14 @@ module _ (f : ℕ → ℕ) (len i : ℕ) where
       let u = around-unique 0 f len i a b _ _ x (stretch-around 0 (omega arith) f bits len i m) in
       ap₂ run.Hole u.0 u.1 ∙ sym (answers-hole m)
   lookup-unique bits run.Outside x = sym (answers-outside x)
-  lookup-unique bits (run.Refused n) x = absurd x
 
 -- ---- the list of all runs
 
 module _ (f : ℕ → ℕ) (bits : Bits f) (len : ℕ) where
-  are-step : (n at : ℕ) (r : Found) → ((at' : ℕ) → len < n + at' + 1 → AreRuns f len at' (runs n f len at')) → len < suc n + at + 1
+  are-step : (n at : ℕ) (r : Option ℕ) → ((at' : ℕ) → len < n + at' + 1 → AreRuns f len at' (runs n f len at')) → len < suc n + at + 1
       → First 1 f len at r → AreRuns f len at
       (when_found r (λ lo. record { first = lo; last = last_around 1 f len lo } ∷ runs n f len (last_around 1 f len lo + 1)))
-  are-step n at (At lo) ih h w =
+  are-step n at (Some lo) ih h w =
       let r = run-around f bits len lo (w.1, w.2) in (
         w.0,
         r.to,
@@ -245,8 +237,7 @@ module _ (f : ℕ → ℕ) (bits : Bits f) (len : ℕ) where
         λ g e. let z : ◌≡◌ {A = ℕ} 0 1 = sym (r.right g) ∙ e in omega arith,
         ih (last_around 1 f len lo + 1) (omega (arith, r.to, w.0)),
       )
-  are-step n at Nothing ih h w = w
-  are-step n at (Refused k) ih h w = absurd w
+  are-step n at None ih h w = w
 
   -- what the reader gives, as a whole list, is the list of the runs
   pub runs-are : (n at : ℕ) → len < n + at + 1 → AreRuns f len at (runs n f len at)
@@ -350,15 +341,14 @@ module _ (f g : ℕ → ℕ) (len : ℕ) (same : (k : ℕ) → k < len → f k �
   unfolding runs
   runs_same zero at = refl
   runs_same (suc n) at =
-      ap (λ (r : Found). when_found r (λ lo. record { first = lo; last = last_around 1 f len lo } ∷ runs n f len (last_around 1 f len lo + 1)))
+      ap (λ (r : Option ℕ). when_found r (λ lo. record { first = lo; last = last_around 1 f len lo } ∷ runs n f len (last_around 1 f len lo + 1)))
       (next-same 1 f g len at same)
       ∙ step (next_set g len at) (runs_same n)
     where
-      step : (r : Found) → ((at' : ℕ) → runs n f len at' ≡ runs n g len at')
+      step : (r : Option ℕ) → ((at' : ℕ) → runs n f len at' ≡ runs n g len at')
           → when_found r (λ lo. record { first = lo; last = last_around 1 f len lo } ∷ runs n f len (last_around 1 f len lo + 1))
           ≡ when_found r (λ lo. record { first = lo; last = last_around 1 g len lo } ∷ runs n g len (last_around 1 g len lo + 1))
-      step (At lo) ih =
+      step (Some lo) ih =
           ap (λ (z : ℕ). record { first = lo; last = z } ∷ runs n f len (z + 1)) (around-same 1 lo).1
           ∙ ap (λ (t : List Ends). record { first = lo; last = last_around 1 g len lo } ∷ t) (ih (last_around 1 g len lo + 1))
-      step Nothing ih = refl
-      step (Refused k) ih = refl
+      step None ih = refl

@@ -1,4 +1,5 @@
 -- The scans: one skips slots that are not wanted, and stops at the first that is. Assumes nothing.
+use Rattle.std.specs.Prelude.{Some, None}
 use mathlib.Core.Path.{◌≡◌, refl, sym, ap, ap₂, ◌∙◌}
 use mathlib.Core.Bool.{Bool, true, false, cond}
 use mathlib.Core.List.{List}
@@ -13,28 +14,27 @@ use Rattle.paper.specs.Bits.{bit_of}
 use Rattle.paper.specs.Count.{all}
 use Rattle.paper.proofs.Count.{all-each, each_all}
 use Rattle.paper.proofs.Logic.{by-test, lt-or-ge}
-use Rattle.slotset.specs.declared.Found.TheVariants.{At, Nothing}
 use Rattle.slotset.specs.Slots.{slot, same_slots}
 use Rattle.slotset.specs.Inside.{FirstBit, LastBit, found_below}
 use Rattle.slotset.specs.Search.{up, next_with, down}
 
 module _ (v : ℕ) (f : ℕ → ℕ) (len : ℕ) where
-  pub next-end : (at : ℕ) → len ≤ at → next_with v f len at ≡ Nothing
+  pub next-end : (at : ℕ) → len ≤ at → next_with v f len at ≡ None
   unfolding next_with up
   next-end at h = let e : len - at ≡ 0 = omega arith in ap (λ (j : ℕ). up v f j at) e
 
-  pub next-hit : (at : ℕ) → at < len → f at ≡ v → next_with v f len at ≡ At at
+  pub next-hit : (at : ℕ) → at < len → f at ≡ v → next_with v f len at ≡ Some at
   unfolding next_with up
   next-hit at h e =
       let m : len - at ≡ suc (len - suc at) = omega arith in
-      ap (λ (j : ℕ). up v f j at) m ∙ ap (λ (b : Bool). cond b (At at) (up v f (len - suc at) (suc at))) (eq-eqb _ _ e)
+      ap (λ (j : ℕ). up v f j at) m ∙ ap (λ (b : Bool). cond b (Some at) (up v f (len - suc at) (suc at))) (eq-eqb _ _ e)
 
   next-step : (at : ℕ) → (at < len → f at ≡ v → ⊥) → next_with v f len at ≡ next_with v f len (suc at)
   unfolding next_with up
   next-step at n = ⊎_elim
       (λ (h : at < len).
       let m : len - at ≡ suc (len - suc at) = omega arith in
-      ap (λ (j : ℕ). up v f j at) m ∙ ap (λ (b : Bool). cond b (At at) (up v f (len - suc at) (suc at))) (ne_eqb _ _ (n h)))
+      ap (λ (j : ℕ). up v f j at) m ∙ ap (λ (b : Bool). cond b (Some at) (up v f (len - suc at) (suc at))) (ne_eqb _ _ (n h)))
       (λ (h : len ≤ at). next-end at h ∙ sym (next-end (suc at) (omega arith)))
       (lt-or-ge at len)
 
@@ -76,19 +76,19 @@ module _ (v : ℕ) (ws : List ℕ) (b len j s r : ℕ) (f : FirstBit v (get_or w
 -- ---- downwards
 
 module _ (v : ℕ) (f : ℕ → ℕ) where
-  pub down-hit : (n : ℕ) → 0 < n → f (n - 1) ≡ v → down v f n ≡ At (n - 1)
+  pub down-hit : (n : ℕ) → 0 < n → f (n - 1) ≡ v → down v f n ≡ Some (n - 1)
   unfolding down
   down-hit zero h e = absurd (lt_irrefl 0 h)
   down-hit (suc n) h e =
       let q : suc n - 1 ≡ n = omega arith in
-      rw q (ap (λ (b : Bool). cond b (At n) (down v f n)) (eq-eqb _ _ (rw q at e)))
+      rw q (ap (λ (b : Bool). cond b (Some n) (down v f n)) (eq-eqb _ _ (rw q at e)))
 
   pub down-skip : (d n : ℕ) → ((k : ℕ) → n ≤ k → k < n + d → f k ≡ v → ⊥) → down v f (n + d) ≡ down v f n
   unfolding down
   down-skip zero n g = let q : n + 0 ≡ n = omega arith in ap (down v f) q
   down-skip (suc d) n g =
       let q : n + suc d ≡ suc (n + d) = omega arith in
-      ap (down v f) q ∙ ap (λ (b : Bool). cond b (At (n + d)) (down v f (n + d))) (ne_eqb _ _ (g (n + d) (omega arith) (omega arith)))
+      ap (down v f) q ∙ ap (λ (b : Bool). cond b (Some (n + d)) (down v f (n + d))) (ne_eqb _ _ (g (n + d) (omega arith) (omega arith)))
       ∙ down-skip d n (λ k a b. g k a (omega arith))
 
 -- from the last wanted bit of word j, up to its bit s, to the slots; `end` is one past that bit's slot
@@ -109,7 +109,7 @@ module _ (v : ℕ) (ws : List ℕ) (b j s r : ℕ) (low : s < 64) (f : LastBit v
   word-before h = let e : j * 64 + r ≡ j * 64 = omega arith in word-drop ∙ ap (down v (slot ws b)) e
 
   -- a bit: its slot
-  pub word-last : r ≢ 0 → down v (slot ws b) end ≡ At (j * 64 + r - 1)
+  pub word-last : r ≢ 0 → down v (slot ws b) end ≡ Some (j * 64 + r - 1)
   unfolding slot
   word-last h =
       let q : (j * 64 + r - 1) / 64 ≡ j = omega (arith, f.to, h) in

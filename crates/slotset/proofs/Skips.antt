@@ -14,7 +14,7 @@ use Rattle.slotset.specs.Slots.{slot, value_of, Bits, has}
 use Rattle.slotset.specs.Search.{next_with, down, last_below}
 use Rattle.slotset.specs.Runs.{start_of, end_of, first_around, last_around}
 use Rattle.slotset.specs.Inside.{Every, FirstBit, LastBit, SkippedUp, SkippedDown, found_below}
-use Rattle.slotset.specs.Answers.{stretch_as, run_as}
+use Rattle.slotset.specs.Answers.{stretch_as, run_at}
 use Rattle.slotset.proofs.Scans.{next-skip, word-found, down-skip, word-before, word-last}
 use Rattle.slotset.proofs.Runs.{has_value, ends-around, stretch-run, stretch-hole, answers-below}
 
@@ -140,7 +140,7 @@ past-slot b ws base i k e f = ⊎_elim
 -- the stretch around slot i by the value of that slot, and by both its ends as the searches from i on give them
 pub held-is : (f : ℕ → ℕ) → Bits f → (len i : ℕ) (b : Bool) (first last : ℕ) → i < len → b ≡ has f len i
     → first ≡ start_of (down (value_of (not b)) f (i + 1)) → last ≡ end_of len (next_with (value_of (not b)) f len i)
-    → cond b (Span first last) (Hole first last) ≡ run_as 0 f len i
+    → cond b (Span first last) (Hole first last) ≡ run_at f len i
 unfolding last_below
 held-is f bits len i b first last h is p q =
     let e : value_of b ≡ f i = ap value_of is ∙ has_value f bits len i h in

@@ -1,22 +1,14 @@
 -- What a caller is answered and handed back, refused or not. Assumes nothing.
-use Rattle.std.specs.Prelude.{Bool, ◌||◌, cond, List, [], ◌∷◌, ◌++◌, ℕ, ◌+◌, ◌-◌, ◌*◌, ◌≤◌, eqb, ltb, leb, length, take, drop, replicate}
+use Rattle.std.specs.Prelude.{Bool, ◌||◌, cond, List, [], ◌∷◌, ◌++◌, ℕ, ◌+◌, ◌-◌, ◌*◌, ◌≤◌, eqb, ltb, leb, length, take, drop, replicate, Option, Some, None, Result}
 use Rattle.paper.specs.Count.{all}
 use Rattle.paper.specs.Limits.{slots_most, set_words, people_ok, Test, test, number_of}
-use Rattle.paper.specs.Rows.{unless}
+use Rattle.paper.specs.Rows.{unless, answer_as}
 use Rattle.slotset.specs.declared.SlotSet.{SlotSet}
 use Rattle.slotset.specs.declared.Changed.{Changed}
-use Rattle.slotset.specs.declared.Found.{Found}
-use Rattle.slotset.specs.declared.Found.TheVariants as found
-use Rattle.slotset.specs.declared.YesNo.{YesNo}
-use Rattle.slotset.specs.declared.YesNo.TheVariants as yes_no
-use Rattle.slotset.specs.declared.Number.{Number}
-use Rattle.slotset.specs.declared.Number.TheVariants as number
 use Rattle.slotset.specs.declared.Run.{Run}
 use Rattle.slotset.specs.declared.Run.TheVariants as run
 use Rattle.slotset.specs.declared.NextRun.{NextRun}
-use Rattle.slotset.specs.declared.NextRun.TheVariants as next_run
 use Rattle.slotset.specs.declared.NextMember.{NextMember}
-use Rattle.slotset.specs.declared.NextMember.TheVariants as next_member
 use Rattle.slotset.specs.Slots.{slot, put_slot, put_slots, has, size, has_no_member, same_slots}
 use Rattle.slotset.specs.Search.{next_set, prev_set, next_unset_after, prev_unset_before}
 use Rattle.slotset.specs.Runs.{first_around, last_around, Around}
@@ -79,16 +71,7 @@ row_slots ws person = slot ws (16 * person)
 unfoldable pub same_sets : List ℕ → List ℕ → ℕ → ℕ → Bool
 same_sets ws vs people len = all people (λ p. same_slots (row_slots ws p) (row_slots vs p) len)
 
--- ---- the answers: the number n, or what was asked
-
-unfoldable pub found_as : ℕ → Found → Found
-found_as n x = unless n (found.Refused n) x
-
-unfoldable pub yes_no_as : ℕ → Bool → YesNo
-yes_no_as n b = unless n (yes_no.Refused n) (cond b yes_no.Yes yes_no.No)
-
-unfoldable pub number_as : ℕ → ℕ → Number
-number_as n k = unless n (number.Refused n) (number.Is k)
+-- ---- what was asked
 
 -- the stretch around i of slots that are v, of a set with the slots f: a run at v = 1, else a hole
 unfoldable pub stretch_as : ℕ → (ℕ → ℕ) → ℕ → ℕ → Run
@@ -96,95 +79,86 @@ stretch_as v f len i =
     cond (eqb v 1) (run.Span (first_around v f len i) (last_around v f len i)) (run.Hole (first_around v f len i) (last_around v f len i))
 
 -- the one that holds i, of slots that are what slot i is; at or past the length none does
-unfoldable pub run_as : ℕ → (ℕ → ℕ) → ℕ → ℕ → Run
-run_as n f len i = unless n (run.Refused n) (cond (ltb i len) (stretch_as (f i) f len i) run.Outside)
+unfoldable pub run_at : (ℕ → ℕ) → ℕ → ℕ → Run
+run_at f len i = cond (ltb i len) (stretch_as (f i) f len i) run.Outside
 
 -- the same, said of every slot: r is the whole stretch that holds i
 abbrev pub Holds : (ℕ → ℕ) → ℕ → ℕ → Run → Type 0
 Holds f len i (run.Span first last) = Around 1 f len i first last
 Holds f len i (run.Hole first last) = Around 0 f len i first last
 Holds f len i run.Outside = len ≤ i
-Holds f len i (run.Refused n) = ⊥
 
 -- the run that starts at the slot found, and the cursor one past it
-abbrev pub run_step : (ℕ → ℕ) → ℕ → Found → NextRun
-run_step f len (found.At lo) = next_run.Span lo (last_around 1 f len lo) (record { at = last_around 1 f len lo + 1 })
-run_step f len found.Nothing = next_run.Done
-run_step f len (found.Refused n) = next_run.Refused n
-
-unfoldable pub next_run_as : ℕ → (ℕ → ℕ) → ℕ → ℕ → NextRun
-next_run_as n f len at = unless n (next_run.Refused n) (run_step f len (next_set f len at))
+abbrev pub run_step : (ℕ → ℕ) → ℕ → Option ℕ → Option NextRun
+run_step f len (Some lo) = Some (record { first = lo; last = last_around 1 f len lo; next = record { at = last_around 1 f len lo + 1 } })
+run_step f len None = None
 
 -- the member found, and the cursor one past it
-abbrev pub member_step : Found → NextMember
-member_step (found.At i) = next_member.Slot i (record { at = i + 1 })
-member_step found.Nothing = next_member.Done
-member_step (found.Refused n) = next_member.Refused n
+abbrev pub member_step : Option ℕ → Option NextMember
+member_step (Some i) = Some (record { at = i; next = record { at = i + 1 } })
+member_step None = None
 
-unfoldable pub next_member_as : ℕ → (ℕ → ℕ) → ℕ → ℕ → NextMember
-next_member_as n f len at = unless n (next_member.Refused n) (member_step (next_set f len at))
+-- the number n, or the run or hole that holds slot i; the next run and the next member from a cursor on
+abbrev pub run_as : ℕ → (ℕ → ℕ) → ℕ → ℕ → Result Run ℕ
+run_as n f len i = answer_as n (run_at f len i)
+
+abbrev pub next_run_as : ℕ → (ℕ → ℕ) → ℕ → ℕ → Result (Option NextRun) ℕ
+next_run_as n f len at = answer_as n (run_step f len (next_set f len at))
+
+abbrev pub next_member_as : ℕ → (ℕ → ℕ) → ℕ → ℕ → Result (Option NextMember) ℕ
+next_member_as n f len at = answer_as n (member_step (next_set f len at))
 
 -- of one lent set: the run or the hole that holds slot i; the next member from a cursor on
-abbrev pub set_run : List ℕ → ℕ → ℕ → Run
+abbrev pub set_run : List ℕ → ℕ → ℕ → Result Run ℕ
 set_run ws len i = run_as (number_of (set_row ws len)) (set_slots ws) len i
 
-abbrev pub set_next_member : List ℕ → ℕ → ℕ → NextMember
+abbrev pub set_next_member : List ℕ → ℕ → ℕ → Result (Option NextMember) ℕ
 set_next_member ws len at = next_member_as (number_of (set_row ws len)) (set_slots ws) len at
 
 -- of a person's row: the run or the hole that holds slot i; the next run and the next member from a cursor on
-abbrev pub row_run : List ℕ → ℕ → ℕ → ℕ → ℕ → Run
+abbrev pub row_run : List ℕ → ℕ → ℕ → ℕ → ℕ → Result Run ℕ
 row_run ws people person len i = run_as (number_of (person_row ws people person len)) (row_slots ws person) len i
 
-abbrev pub row_next_run : List ℕ → ℕ → ℕ → ℕ → ℕ → NextRun
+abbrev pub row_next_run : List ℕ → ℕ → ℕ → ℕ → ℕ → Result (Option NextRun) ℕ
 row_next_run ws people person len at = next_run_as (number_of (person_row ws people person len)) (row_slots ws person) len at
 
-abbrev pub row_next_member : List ℕ → ℕ → ℕ → ℕ → ℕ → NextMember
+abbrev pub row_next_member : List ℕ → ℕ → ℕ → ℕ → ℕ → Result (Option NextMember) ℕ
 row_next_member ws people person len at = next_member_as (number_of (person_row ws people person len)) (row_slots ws person) len at
 
 -- ---- each question of a set by value: its refusal, or what was asked
 
-abbrev pub len_is : SlotSet → Number
-len_is s = number_as (number_of (length_row s.len)) s.len
+abbrev pub len_is : SlotSet → Result ℕ ℕ
+len_is s = answer_as (number_of (length_row s.len)) s.len
 
-abbrev pub contains_is : SlotSet → ℕ → YesNo
-contains_is s i = yes_no_as (number_of (length_row s.len)) (has (slots_of s) s.len i)
+abbrev pub contains_is : SlotSet → ℕ → Result Bool ℕ
+contains_is s i = answer_as (number_of (length_row s.len)) (has (slots_of s) s.len i)
 
-abbrev pub is_empty_is : SlotSet → YesNo
-is_empty_is s = yes_no_as (number_of (length_row s.len)) (has_no_member (slots_of s) s.len)
+abbrev pub is_empty_is : SlotSet → Result Bool ℕ
+is_empty_is s = answer_as (number_of (length_row s.len)) (has_no_member (slots_of s) s.len)
 
-abbrev pub count_is : SlotSet → Number
-count_is s = number_as (number_of (length_row s.len)) (size (slots_of s) s.len)
+abbrev pub count_is : SlotSet → Result ℕ ℕ
+count_is s = answer_as (number_of (length_row s.len)) (size (slots_of s) s.len)
 
-abbrev pub next_set_is : SlotSet → ℕ → Found
-next_set_is s from = found_as (number_of (length_row s.len)) (next_set (slots_of s) s.len from)
+abbrev pub next_set_is : SlotSet → ℕ → Result (Option ℕ) ℕ
+next_set_is s from = answer_as (number_of (length_row s.len)) (next_set (slots_of s) s.len from)
 
-abbrev pub prev_set_is : SlotSet → ℕ → Found
-prev_set_is s from = found_as (number_of (length_row s.len)) (prev_set (slots_of s) s.len from)
+abbrev pub prev_set_is : SlotSet → ℕ → Result (Option ℕ) ℕ
+prev_set_is s from = answer_as (number_of (length_row s.len)) (prev_set (slots_of s) s.len from)
 
-abbrev pub next_unset_after_is : SlotSet → ℕ → Found
-next_unset_after_is s from = found_as (number_of (length_row s.len)) (next_unset_after (slots_of s) s.len from)
+abbrev pub next_unset_after_is : SlotSet → ℕ → Result (Option ℕ) ℕ
+next_unset_after_is s from = answer_as (number_of (length_row s.len)) (next_unset_after (slots_of s) s.len from)
 
-abbrev pub prev_unset_before_is : SlotSet → ℕ → Found
-prev_unset_before_is s from = found_as (number_of (length_row s.len)) (prev_unset_before (slots_of s) s.len from)
+abbrev pub prev_unset_before_is : SlotSet → ℕ → Result (Option ℕ) ℕ
+prev_unset_before_is s from = answer_as (number_of (length_row s.len)) (prev_unset_before (slots_of s) s.len from)
 
-abbrev pub run_bounds_is : SlotSet → ℕ → Run
+abbrev pub run_bounds_is : SlotSet → ℕ → Result Run ℕ
 run_bounds_is s i = run_as (number_of (length_row s.len)) (slots_of s) s.len i
 
-abbrev pub next_run_is : SlotSet → ℕ → NextRun
+abbrev pub next_run_is : SlotSet → ℕ → Result (Option NextRun) ℕ
 next_run_is s at = next_run_as (number_of (length_row s.len)) (slots_of s) s.len at
 
-abbrev pub next_member_is : SlotSet → ℕ → NextMember
+abbrev pub next_member_is : SlotSet → ℕ → Result (Option NextMember) ℕ
 next_member_is s at = next_member_as (number_of (length_row s.len)) (slots_of s) s.len at
-
--- the number of an answer, 0 where it is no refusal
-abbrev pub yes_no_refusal : YesNo → ℕ
-yes_no_refusal yes_no.Yes = 0
-yes_no_refusal yes_no.No = 0
-yes_no_refusal (yes_no.Refused n) = n
-
-abbrev pub number_refusal : Number → ℕ
-number_refusal (number.Is k) = 0
-number_refusal (number.Refused n) = n
 
 -- ---- a set handed back: as it was, or the new one
 

@@ -1,8 +1,6 @@
 -- What only contracts of private functions cite: what one word of a set answers, and what a search came to. Assumes nothing.
-use Rattle.std.specs.Prelude.{◌≡◌, ◌&&◌, cond, List, ◌↔◌, ℕ, zero, suc, ◌+◌, ◌-◌, ◌≤◌, ◌<◌, ltb, leb, get_or}
+use Rattle.std.specs.Prelude.{◌≡◌, ◌&&◌, cond, List, ◌↔◌, ℕ, zero, suc, ◌+◌, ◌-◌, ◌≤◌, ◌<◌, ltb, leb, get_or, Option, Some, None}
 use Rattle.paper.specs.Bits.{bit_of}
-use Rattle.slotset.specs.declared.Found.{Found}
-use Rattle.slotset.specs.declared.Found.TheVariants.{At, Nothing, Refused}
 
 -- the bits of r are set where those of w are v
 abbrev pub Wanted : ℕ → ℕ → ℕ → Type 0
@@ -49,16 +47,14 @@ pub record SkippedDown (ws : List ℕ) (b x before r : ℕ) : Type 0 where
   pub other : 1 < r → get_or ws (b + (r - 1)) 0 ≡ x → ⊥
 
 -- the slot i as found, if it is below the length
-unfoldable pub found_below : ℕ → ℕ → Found
-found_below len i = cond (ltb i len) (At i) Nothing
+unfoldable pub found_below : ℕ → ℕ → Option ℕ
+found_below len i = cond (ltb i len) (Some i) None
 
 -- what is found is below n, or above n
-abbrev pub Below : ℕ → Found → Type 0
-Below n (At i) = i < n
-Below n Nothing = Unit
-Below n (Refused k) = Unit
+abbrev pub Below : ℕ → Option ℕ → Type 0
+Below n (Some i) = i < n
+Below n None = Unit
 
-abbrev pub Above : ℕ → Found → Type 0
-Above n (At i) = n < i
-Above n Nothing = Unit
-Above n (Refused k) = Unit
+abbrev pub Above : ℕ → Option ℕ → Type 0
+Above n (Some i) = n < i
+Above n None = Unit

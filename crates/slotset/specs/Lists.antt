@@ -1,11 +1,10 @@
 -- Everybody's runs in lent columns: how many each person has, and the first and the last slot of each run. Assumes nothing.
-use Rattle.std.specs.Prelude.{List, [], ◌∷◌, ◌++◌, ℕ, zero, suc, ◌+◌, ◌*◌, leb, length, set}
+use Rattle.std.specs.Prelude.{List, [], ◌∷◌, ◌++◌, ℕ, zero, suc, ◌+◌, ◌*◌, leb, length, set, Result}
 use Rattle.paper.specs.Count.{over}
 use Rattle.paper.specs.Limits.{Test, test, number_of}
-use Rattle.paper.specs.Rows.{unless}
-use Rattle.slotset.specs.declared.Number.{Number}
+use Rattle.paper.specs.Rows.{unless, answer_as}
 use Rattle.slotset.specs.Runs.{Ends, ends_of_runs}
-use Rattle.slotset.specs.Answers.{sets_row, row_slots, number_as}
+use Rattle.slotset.specs.Answers.{sets_row, row_slots}
 
 -- 1 and 2 of everybody's sets, where 2 is also a column with room for fewer counts than people, or for fewer runs than people times slots
 unfoldable pub every_run_row : List ℕ → ℕ → ℕ → ℕ → ℕ → ℕ → List Test
@@ -27,7 +26,7 @@ column end (r ∷ rs) n l = column end rs (n + 1) (set l n (end r))
 
 -- the whole outcome: what is answered, and the three columns at exit
 pub record Outcome : Type 0 where
-  pub answer : Number
+  pub answer : Result ℕ ℕ
   pub counts : List ℕ
   pub firsts : List ℕ
   pub lasts : List ℕ
@@ -38,7 +37,7 @@ abbrev pub every_run_of : List ℕ → ℕ → ℕ → List ℕ → List ℕ →
 every_run_of ws people len cs fs ls =
     let n = number_of (every_run_row ws people len (length cs) (length fs) (length ls)) in
     record {
-      answer = number_as n (length (every_run ws len people));
+      answer = answer_as n (length (every_run ws len people));
       counts = unless n cs (over (λ p. length (person_runs ws len p)) people cs);
       firsts = unless n fs (column (λ e. e.first) (every_run ws len people) 0 fs);
       lasts = unless n ls (column (λ e. e.last) (every_run ws len people) 0 ls);

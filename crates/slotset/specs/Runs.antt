@@ -1,20 +1,16 @@
 -- Runs and holes: maximal stretches of slots of one value, both ends named. Assumes nothing.
-use Rattle.std.specs.Prelude.{◌≡◌, List, [], ◌∷◌, ◌⊎◌, ℕ, zero, suc, ◌+◌, ◌-◌, ◌≤◌, ◌<◌}
-use Rattle.slotset.specs.declared.Found.{Found}
-use Rattle.slotset.specs.declared.Found.TheVariants.{At, Nothing, Refused}
+use Rattle.std.specs.Prelude.{◌≡◌, List, [], ◌∷◌, ◌⊎◌, ℕ, zero, suc, ◌+◌, ◌-◌, ◌≤◌, ◌<◌, Option, Some, None}
 use Rattle.slotset.specs.Search.{next_set, next_with, last_below}
 
 -- one past the slot found, or 0: where a stretch starts after the slot of the other value before it
-abbrev pub start_of : Found → ℕ
-start_of (At k) = k + 1
-start_of Nothing = 0
-start_of (Refused n) = 0
+abbrev pub start_of : Option ℕ → ℕ
+start_of (Some k) = k + 1
+start_of None = 0
 
 -- one before the slot found, or the last slot: where a stretch ends before the slot of the other value after it
-abbrev pub end_of : ℕ → Found → ℕ
-end_of len (At k) = k - 1
-end_of len Nothing = len - 1
-end_of len (Refused n) = 0
+abbrev pub end_of : ℕ → Option ℕ → ℕ
+end_of len (Some k) = k - 1
+end_of len None = len - 1
 
 -- the ends of the stretch around slot i of slots that are v, as it is: at v = 1 the run of a member, at v = 0 the hole of another slot
 abbrev pub first_around : ℕ → (ℕ → ℕ) → ℕ → ℕ → ℕ
@@ -40,10 +36,9 @@ pub record Ends : Type 0 where
   pub last : ℕ
 
 -- what follows from the slot found, if one was
-abbrev pub when_found : Found → (ℕ → List Ends) → List Ends
-when_found (At i) g = g i
-when_found Nothing g = []
-when_found (Refused n) g = []
+abbrev pub when_found : Option ℕ → (ℕ → List Ends) → List Ends
+when_found (Some i) g = g i
+when_found None g = []
 
 -- at most n runs from the cursor `at` on
 unfoldable pub runs : ℕ → (ℕ → ℕ) → ℕ → ℕ → List Ends

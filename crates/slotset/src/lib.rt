@@ -11,9 +11,9 @@ mod word;
 
 ghost use Rattle.std.specs.Prelude.{◌≡◌};
 ghost use Rattle.paper.specs.Limits.{test};
-ghost use Rattle.paper.specs.Rows.{refusal_of, next};
+ghost use Rattle.paper.specs.Rows.{refusal_of, next, answer_as};
 ghost use Rattle.slotset.specs.Slots.{value_of};
-ghost use Rattle.slotset.specs.Answers.{length_row, slot_row, stretch_ok, stretch_row, yes_no_as, new_of, put_of, stretch_of};
+ghost use Rattle.slotset.specs.Answers.{length_row, slot_row, stretch_ok, stretch_row, new_of, put_of, stretch_of};
 ghost use Rattle.slotset.specs.Answers.{len_is, contains_is, is_empty_is, count_is, next_set_is, prev_set_is, next_unset_after_is};
 ghost use Rattle.slotset.specs.Answers.{prev_unset_before_is, run_bounds_is, next_run_is, next_member_is};
 
@@ -33,36 +33,12 @@ pub struct Changed {
     pub number: u8,
 }
 
-// A slot that was looked for.
-#[derive(Clone, Copy)]
-pub enum Found {
-    At(usize),
-    Nothing,
-    Refused(u8),
-}
-
-// Yes or no.
-#[derive(Clone, Copy)]
-pub enum YesNo {
-    Yes,
-    No,
-    Refused(u8),
-}
-
-// A number that was asked for: a count or an index.
-#[derive(Clone, Copy)]
-pub enum Number {
-    Is(usize),
-    Refused(u8),
-}
-
 // The stretch that holds a slot, both ends in it: a run of members, or a hole between them; or Outside, of a slot at or past the length.
 #[derive(Clone, Copy)]
 pub enum Run {
     Span { first: usize, last: usize },
     Hole { first: usize, last: usize },
     Outside,
-    Refused(u8),
 }
 
 // Where a reader stands.
@@ -71,24 +47,19 @@ pub struct Cursor {
     pub at: usize,
 }
 
-// The next run, both ends in it, with the cursor one past it; or Done.
+// A run that was read, both ends in it, with the cursor one past it.
 #[derive(Clone, Copy)]
-pub enum NextRun {
-    Span {
-        first: usize,
-        last: usize,
-        next: Cursor,
-    },
-    Done,
-    Refused(u8),
+pub struct NextRun {
+    pub first: usize,
+    pub last: usize,
+    pub next: Cursor,
 }
 
-// The next member, with the cursor one past it; or Done.
+// A member that was read, with the cursor one past it.
 #[derive(Clone, Copy)]
-pub enum NextMember {
-    Slot { at: usize, next: Cursor },
-    Done,
-    Refused(u8),
+pub struct NextMember {
+    pub at: usize,
+    pub next: Cursor,
 }
 
 // What stands against a length: 1.
@@ -131,13 +102,6 @@ fn stretch_refusal(len: usize, from: usize, to: usize) -> Refusal
     check_stretch(f, len, from, to)
 }
 
-// A test as an answer.
-pub(crate) fn yes_or_no(b: bool) -> YesNo
-    ensures { result ≡ yes_no_as 0 b }
-{
-    if b { YesNo::Yes } else { YesNo::No }
-}
-
 impl SlotSet {
     // The empty set of len slots; refused, the empty set of none.
     pub fn new(len: usize) -> Changed
@@ -158,28 +122,28 @@ impl SlotSet {
     }
 
     // How many slots the set ranges over.
-    pub fn len(self) -> Number
+    pub fn len(self) -> Result<usize, u8>
         ensures { result ≡ len_is self }
     {
         let len = self.len;
         let number = len_refusal(len).number;
         if number == 0 {
-            return Number::Is(len);
+            return Ok(len);
         }
-        Number::Refused(number)
+        Err(number)
     }
 
     // Whether slot i is a member; at or past the length it is not.
-    pub fn contains(self, i: usize) -> YesNo
+    pub fn contains(self, i: usize) -> Result<bool, u8>
         ensures { result ≡ contains_is self i }
     {
         let len = self.len;
         let number = len_refusal(len).number;
         if number == 0 {
             let words = self.words;
-            return yes_or_no(scan::contains(&words, 0, len, i));
+            return Ok(scan::contains(&words, 0, len, i));
         }
-        YesNo::Refused(number)
+        Err(number)
     }
 
     // The set with slot i.
@@ -245,98 +209,98 @@ impl SlotSet {
     }
 
     // Whether the set has no member.
-    pub fn is_empty(self) -> YesNo
+    pub fn is_empty(self) -> Result<bool, u8>
         ensures { result ≡ is_empty_is self }
     {
         let len = self.len;
         let number = len_refusal(len).number;
         if number == 0 {
             let words = self.words;
-            return yes_or_no(scan::is_empty(&words, 0, len));
+            return Ok(scan::is_empty(&words, 0, len));
         }
-        YesNo::Refused(number)
+        Err(number)
     }
 
     // How many members the set has.
-    pub fn count(self) -> Number
+    pub fn count(self) -> Result<usize, u8>
         ensures { result ≡ count_is self }
     {
         let len = self.len;
         let number = len_refusal(len).number;
         if number == 0 {
             let words = self.words;
-            return Number::Is(scan::count(&words, 0, len));
+            return Ok(scan::count(&words, 0, len));
         }
-        Number::Refused(number)
+        Err(number)
     }
 
     // The first member at or after `from`.
-    pub fn next_set(self, from: usize) -> Found
+    pub fn next_set(self, from: usize) -> Result<Option<usize>, u8>
         ensures { result ≡ next_set_is self from }
     {
         let len = self.len;
         let number = len_refusal(len).number;
         if number == 0 {
             let words = self.words;
-            return scan::next_with(&words, 0, len, true, from);
+            return Ok(scan::next_with(&words, 0, len, true, from));
         }
-        Found::Refused(number)
+        Err(number)
     }
 
     // The last member at or before `from`.
-    pub fn prev_set(self, from: usize) -> Found
+    pub fn prev_set(self, from: usize) -> Result<Option<usize>, u8>
         ensures { result ≡ prev_set_is self from }
     {
         let len = self.len;
         let number = len_refusal(len).number;
         if number == 0 {
             let words = self.words;
-            return scan::prev_set(&words, 0, len, from);
+            return Ok(scan::prev_set(&words, 0, len, from));
         }
-        Found::Refused(number)
+        Err(number)
     }
 
     // The first slot after `from`, below the length, that is no member.
-    pub fn next_unset_after(self, from: usize) -> Found
+    pub fn next_unset_after(self, from: usize) -> Result<Option<usize>, u8>
         ensures { result ≡ next_unset_after_is self from }
     {
         let len = self.len;
         let number = len_refusal(len).number;
         if number == 0 {
             let words = self.words;
-            return scan::next_unset_after(&words, 0, len, from);
+            return Ok(scan::next_unset_after(&words, 0, len, from));
         }
-        Found::Refused(number)
+        Err(number)
     }
 
     // The last slot before `from`, below the length, that is no member.
-    pub fn prev_unset_before(self, from: usize) -> Found
+    pub fn prev_unset_before(self, from: usize) -> Result<Option<usize>, u8>
         ensures { result ≡ prev_unset_before_is self from }
     {
         let len = self.len;
         let number = len_refusal(len).number;
         if number == 0 {
             let words = self.words;
-            return scan::last_below(&words, 0, len, false, from);
+            return Ok(scan::last_below(&words, 0, len, false, from));
         }
-        Found::Refused(number)
+        Err(number)
     }
 
     // The run that holds slot i, or the hole.
-    pub fn run_bounds(self, i: usize) -> Run
+    pub fn run_bounds(self, i: usize) -> Result<Run, u8>
         ensures { result ≡ run_bounds_is self i }
     {
         let len = self.len;
         let number = len_refusal(len).number;
         if number == 0 {
             let words = self.words;
-            return scan::run_bounds(&words, 0, len, i);
+            return Ok(scan::run_bounds(&words, 0, len, i));
         }
-        Run::Refused(number)
+        Err(number)
     }
 
     // The reader of runs: the next one from the cursor on.
-    pub fn next_run(self, c: Cursor) -> NextRun
+    pub fn next_run(self, c: Cursor) -> Result<Option<NextRun>, u8>
         ensures { result ≡ next_run_is self c.at }
     {
         let len = self.len;
@@ -344,13 +308,13 @@ impl SlotSet {
         let number = len_refusal(len).number;
         if number == 0 {
             let words = self.words;
-            return scan::next_run(&words, 0, len, at);
+            return Ok(scan::next_run(&words, 0, len, at));
         }
-        NextRun::Refused(number)
+        Err(number)
     }
 
     // The reader of single members: the next one from the cursor on.
-    pub fn next_member(self, c: Cursor) -> NextMember
+    pub fn next_member(self, c: Cursor) -> Result<Option<NextMember>, u8>
         ensures { result ≡ next_member_is self c.at }
     {
         let len = self.len;
@@ -358,8 +322,8 @@ impl SlotSet {
         let number = len_refusal(len).number;
         if number == 0 {
             let words = self.words;
-            return scan::next_member(&words, 0, len, at);
+            return Ok(scan::next_member(&words, 0, len, at));
         }
-        NextMember::Refused(number)
+        Err(number)
     }
 }

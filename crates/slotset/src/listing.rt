@@ -6,7 +6,7 @@ ghost use Rattle.slotset.specs.Slots.{slot};
 ghost use Rattle.slotset.specs.Runs.{ends_of_runs};
 ghost use Rattle.slotset.specs.Lists.{every_run_row, person_runs, every_run, column, every_run_of};
 
-use crate::{Found, Number, row, scan};
+use crate::{row, scan};
 use paper::Refusal;
 
 // What stands against everybody's runs in columns of so many entries: 1 or 2. The product is made only of counts that pass.
@@ -47,19 +47,17 @@ fn list_set(
 {
     let mut n = from;
     let mut at: usize = 0;
+    // a while: each step jumps past the run found, so no range is walked
     while at < len {
         match scan::next_with(words, base, len, true, at) {
-            Found::At(first) => {
+            Some(first) => {
                 let last = scan::end_of(scan::next_with(words, base, len, false, first + 1), len);
                 firsts[n] = first as u16;
                 lasts[n] = last as u16;
                 n += 1;
                 at = last + 1;
             }
-            Found::Nothing => {
-                return n;
-            }
-            Found::Refused(_) => {
+            None => {
                 return n;
             }
         }
@@ -84,12 +82,10 @@ fn list_sets(
         × (lasts.new ≡ column (λ e. e.last) (every_run words.now len people) 0 lasts.old) }
 {
     let mut n: usize = 0;
-    let mut p: usize = 0;
-    while p < people {
+    for p in 0..people {
         let next = list_set(len, words, firsts, lasts, paper::SET_WORDS * p, n);
         counts[p] = (next - n) as u16;
         n = next;
-        p += 1;
     }
     n
 }
@@ -102,7 +98,7 @@ pub fn every_run(
     counts: &mut [u16],
     firsts: &mut [u16],
     lasts: &mut [u16],
-) -> Number
+) -> Result<usize, u8>
     ensures value { result ≡ (every_run_of words.now people len counts.old firsts.old lasts.old
         ).answer }
     ensures counts_after { counts.new ≡ (every_run_of words.now people len counts.old firsts.old lasts.old).counts }
@@ -111,7 +107,7 @@ pub fn every_run(
 {
     let number = lists_refusal(people, len, words, counts.len(), firsts.len(), lasts.len()).number;
     if number == 0 {
-        return Number::Is(list_sets(people, len, words, counts, firsts, lasts));
+        return Ok(list_sets(people, len, words, counts, firsts, lasts));
     }
-    Number::Refused(number)
+    Err(number)
 }

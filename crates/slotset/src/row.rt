@@ -1,14 +1,14 @@
 // A person's row: the 16 words of one set among lent ones, a set a person, in person order. Nothing is copied to answer a question.
 ghost use Rattle.std.specs.Prelude.{◌≡◌, ◌&&◌, ◌+◌, ◌*◌, ◌≤◌, leb, ltb, length, take, drop};
 ghost use Rattle.paper.specs.Limits.{slots_most, set_words, people_ok, number_of};
-ghost use Rattle.paper.specs.Rows.{refusal_of};
+ghost use Rattle.paper.specs.Rows.{refusal_of, answer_as};
 ghost use Rattle.slotset.specs.Slots.{has, size, has_no_member, value_of};
 ghost use Rattle.slotset.specs.Search.{next_set, prev_set, next_unset_after, prev_unset_before};
 ghost use Rattle.slotset.specs.Answers.{person_row, person_stretch_row, row_slots, load_of, store_of, row_stretch_of, cleared_row};
 ghost use Rattle.slotset.specs.Answers.{sets_row, same_sets_row, same_sets};
-ghost use Rattle.slotset.specs.Answers.{found_as, yes_no_as, number_as, row_run, row_next_run, row_next_member};
+ghost use Rattle.slotset.specs.Answers.{row_run, row_next_run, row_next_member};
 
-use crate::{Changed, Cursor, Found, NextMember, NextRun, Number, Run, SlotSet, YesNo, scan};
+use crate::{Changed, Cursor, NextMember, NextRun, Run, SlotSet, scan};
 use paper::Refusal;
 
 // What stands against everybody's sets among lent words: 1 or 2.
@@ -61,63 +61,81 @@ fn row_stretch_refusal(
 }
 
 // Whether slot i is a member; at or past the length it is not.
-pub fn contains(people: usize, len: usize, words: &[u64], person: usize, i: usize) -> YesNo
-    ensures { result ≡ yes_no_as (number_of (person_row words.now people person len))
+pub fn contains(
+    people: usize,
+    len: usize,
+    words: &[u64],
+    person: usize,
+    i: usize,
+) -> Result<bool, u8>
+    ensures { result ≡ answer_as (number_of (person_row words.now people person len))
         (has (row_slots words.now person) len i) }
 {
     let number = row_refusal(people, len, words, person).number;
     if number == 0 {
-        return crate::yes_or_no(scan::contains(words, paper::SET_WORDS * person, len, i));
+        return Ok(scan::contains(words, paper::SET_WORDS * person, len, i));
     }
-    YesNo::Refused(number)
+    Err(number)
 }
 
 // Whether the row has no member.
-pub fn is_empty(people: usize, len: usize, words: &[u64], person: usize) -> YesNo
-    ensures { result ≡ yes_no_as (number_of (person_row words.now people person len))
+pub fn is_empty(people: usize, len: usize, words: &[u64], person: usize) -> Result<bool, u8>
+    ensures { result ≡ answer_as (number_of (person_row words.now people person len))
         (has_no_member (row_slots words.now person) len) }
 {
     let number = row_refusal(people, len, words, person).number;
     if number == 0 {
-        return crate::yes_or_no(scan::is_empty(words, paper::SET_WORDS * person, len));
+        return Ok(scan::is_empty(words, paper::SET_WORDS * person, len));
     }
-    YesNo::Refused(number)
+    Err(number)
 }
 
 // How many members the row has.
-pub fn count(people: usize, len: usize, words: &[u64], person: usize) -> Number
-    ensures { result ≡ number_as (number_of (person_row words.now people person len))
+pub fn count(people: usize, len: usize, words: &[u64], person: usize) -> Result<usize, u8>
+    ensures { result ≡ answer_as (number_of (person_row words.now people person len))
         (size (row_slots words.now person) len) }
 {
     let number = row_refusal(people, len, words, person).number;
     if number == 0 {
-        return Number::Is(scan::count(words, paper::SET_WORDS * person, len));
+        return Ok(scan::count(words, paper::SET_WORDS * person, len));
     }
-    Number::Refused(number)
+    Err(number)
 }
 
 // The first member at or after `from`.
-pub fn next_set(people: usize, len: usize, words: &[u64], person: usize, from: usize) -> Found
-    ensures { result ≡ found_as (number_of (person_row words.now people person len))
+pub fn next_set(
+    people: usize,
+    len: usize,
+    words: &[u64],
+    person: usize,
+    from: usize,
+) -> Result<Option<usize>, u8>
+    ensures { result ≡ answer_as (number_of (person_row words.now people person len))
         (next_set (row_slots words.now person) len from) }
 {
     let number = row_refusal(people, len, words, person).number;
     if number == 0 {
-        return scan::next_with(words, paper::SET_WORDS * person, len, true, from);
+        return Ok(scan::next_with(words, paper::SET_WORDS * person, len, true, from));
     }
-    Found::Refused(number)
+    Err(number)
 }
 
 // The last member at or before `from`.
-pub fn prev_set(people: usize, len: usize, words: &[u64], person: usize, from: usize) -> Found
-    ensures { result ≡ found_as (number_of (person_row words.now people person len))
+pub fn prev_set(
+    people: usize,
+    len: usize,
+    words: &[u64],
+    person: usize,
+    from: usize,
+) -> Result<Option<usize>, u8>
+    ensures { result ≡ answer_as (number_of (person_row words.now people person len))
         (prev_set (row_slots words.now person) len from) }
 {
     let number = row_refusal(people, len, words, person).number;
     if number == 0 {
-        return scan::prev_set(words, paper::SET_WORDS * person, len, from);
+        return Ok(scan::prev_set(words, paper::SET_WORDS * person, len, from));
     }
-    Found::Refused(number)
+    Err(number)
 }
 
 // The first slot after `from`, below the length, that is no member.
@@ -127,15 +145,15 @@ pub fn next_unset_after(
     words: &[u64],
     person: usize,
     from: usize,
-) -> Found
-    ensures { result ≡ found_as (number_of (person_row words.now people person len))
+) -> Result<Option<usize>, u8>
+    ensures { result ≡ answer_as (number_of (person_row words.now people person len))
         (next_unset_after (row_slots words.now person) len from) }
 {
     let number = row_refusal(people, len, words, person).number;
     if number == 0 {
-        return scan::next_unset_after(words, paper::SET_WORDS * person, len, from);
+        return Ok(scan::next_unset_after(words, paper::SET_WORDS * person, len, from));
     }
-    Found::Refused(number)
+    Err(number)
 }
 
 // The last slot before `from`, below the length, that is no member.
@@ -145,50 +163,68 @@ pub fn prev_unset_before(
     words: &[u64],
     person: usize,
     from: usize,
-) -> Found
-    ensures { result ≡ found_as (number_of (person_row words.now people person len))
+) -> Result<Option<usize>, u8>
+    ensures { result ≡ answer_as (number_of (person_row words.now people person len))
         (prev_unset_before (row_slots words.now person) len from) }
 {
     let number = row_refusal(people, len, words, person).number;
     if number == 0 {
-        return scan::last_below(words, paper::SET_WORDS * person, len, false, from);
+        return Ok(scan::last_below(words, paper::SET_WORDS * person, len, false, from));
     }
-    Found::Refused(number)
+    Err(number)
 }
 
 // The run that holds slot i, or the hole.
-pub fn run_bounds(people: usize, len: usize, words: &[u64], person: usize, i: usize) -> Run
+pub fn run_bounds(
+    people: usize,
+    len: usize,
+    words: &[u64],
+    person: usize,
+    i: usize,
+) -> Result<Run, u8>
     ensures { result ≡ row_run words.now people person len i }
 {
     let number = row_refusal(people, len, words, person).number;
     if number == 0 {
-        return scan::run_bounds(words, paper::SET_WORDS * person, len, i);
+        return Ok(scan::run_bounds(words, paper::SET_WORDS * person, len, i));
     }
-    Run::Refused(number)
+    Err(number)
 }
 
 // The reader of runs: the next one from the cursor on.
-pub fn next_run(people: usize, len: usize, words: &[u64], person: usize, c: Cursor) -> NextRun
+pub fn next_run(
+    people: usize,
+    len: usize,
+    words: &[u64],
+    person: usize,
+    c: Cursor,
+) -> Result<Option<NextRun>, u8>
     ensures { result ≡ row_next_run words.now people person len c.at }
 {
     let at = c.at;
     let number = row_refusal(people, len, words, person).number;
     if number == 0 {
-        return scan::next_run(words, paper::SET_WORDS * person, len, at);
+        return Ok(scan::next_run(words, paper::SET_WORDS * person, len, at));
     }
-    NextRun::Refused(number)
+    Err(number)
 }
 
 // The reader of single members: the next one from the cursor on.
-pub fn next_member(people: usize, len: usize, words: &[u64], person: usize, c: Cursor) -> NextMember
+pub fn next_member(
+    people: usize,
+    len: usize,
+    words: &[u64],
+    person: usize,
+    c: Cursor,
+) -> Result<Option<NextMember>, u8>
     ensures { result ≡ row_next_member words.now people person len c.at }
 {
     let at = c.at;
     let number = row_refusal(people, len, words, person).number;
     if number == 0 {
-        return scan::next_member(words, paper::SET_WORDS * person, len, at);
+        return Ok(scan::next_member(words, paper::SET_WORDS * person, len, at));
     }
-    NextMember::Refused(number)
+    Err(number)
 }
 
 // Every slot of the row from `from` up to `to`, without `to`, becomes as wanted.
@@ -231,11 +267,7 @@ fn words_at(words: &[u64], base: usize) -> [u64; 16]
     ensures { result ≡ take 16 (drop base words.now) }
 {
     let mut out = [0u64; 16];
-    let mut j = 0;
-    while j < paper::SET_WORDS {
-        out[j] = words[base + j];
-        j += 1;
-    }
+    out.copy_from_slice(&words[base..base + paper::SET_WORDS]);
     out
 }
 
@@ -288,11 +320,8 @@ fn all_same(people: usize, len: usize, a: &[u64], b: &[u64]) -> bool
     requires { (people ≤ 32) × (len ≤ 1024) × (16 * people ≤ length a.now) × (16 * people ≤ length b.now) }
     ensures { result ≡ same_sets a.now b.now people len }
 {
-    let mut p = 0;
-    while p < people {
-        if scan::same(a, b, paper::SET_WORDS * p, len) {
-            p += 1;
-        } else {
+    for p in 0..people {
+        if !scan::same(a, b, paper::SET_WORDS * p, len) {
             return false;
         }
     }
@@ -300,13 +329,13 @@ fn all_same(people: usize, len: usize, a: &[u64], b: &[u64]) -> bool
 }
 
 // Whether everybody's sets are the same below the length in two columns of words. Refusals 1, 2.
-pub fn same_sets(people: usize, len: usize, a: &[u64], b: &[u64]) -> YesNo
-    ensures { result ≡ yes_no_as (number_of (same_sets_row a.now b.now people len))
+pub fn same_sets(people: usize, len: usize, a: &[u64], b: &[u64]) -> Result<bool, u8>
+    ensures { result ≡ answer_as (number_of (same_sets_row a.now b.now people len))
         (same_sets a.now b.now people len) }
 {
     let number = same_sets_refusal(people, len, a, b).number;
     if number == 0 {
-        return crate::yes_or_no(all_same(people, len, a, b));
+        return Ok(all_same(people, len, a, b));
     }
-    YesNo::Refused(number)
+    Err(number)
 }

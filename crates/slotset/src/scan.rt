@@ -1,19 +1,19 @@
 // The scans over a set's words where they stand: in a slice, from word `base` on. Sets by value and rows both ask here.
 ghost use Rattle.std.specs.Prelude.{◌≡◌, not, cond, ◌+◌, ◌-◌, ◌*◌, ◌≤◌, ◌<◌, min, length};
 ghost use Rattle.slotset.specs.Slots.{slot, value_of, has, size, has_no_member, same_slots, put_slots};
-ghost use Rattle.slotset.specs.Search.{next_with, down, last_below, prev_set, next_unset_after};
+ghost use Rattle.slotset.specs.Search.{next_with, next_set, down, last_below, prev_set, next_unset_after};
 ghost use Rattle.slotset.specs.Inside.{found_below, Below, Above, SkippedUp, SkippedDown};
 ghost use Rattle.slotset.specs.declared.Run.TheVariants.{Span, Hole};
 ghost use Rattle.slotset.specs.Runs.{start_of, end_of};
-ghost use Rattle.slotset.specs.Answers.{run_as, next_run_as, next_member_as, member_step};
+ghost use Rattle.slotset.specs.Answers.{run_at, run_step, member_step};
 
-use crate::{Cursor, Found, NextMember, NextRun, Run, word};
+use crate::{Cursor, NextMember, NextRun, Run, word};
 
 // The lesser of two numbers.
 pub(crate) fn least(a: usize, b: usize) -> usize
     ensures { result ≡ min a b }
 {
-    if a < b { a } else { b }
+    a.min(b)
 }
 
 // Whether slot i is a member; at or past the length it is not.
@@ -29,18 +29,20 @@ pub(crate) fn contains(words: &[u64], base: usize, len: usize, i: usize) -> bool
 }
 
 // The slot that a search came to; nothing where that is not below the length.
-fn found_below(len: usize, hit: usize) -> Found
+fn found_below(len: usize, hit: usize) -> Option<usize>
     ensures { result ≡ found_below len hit }
 {
-    if hit < len {
-        Found::At(hit)
-    } else {
-        Found::Nothing
-    }
+    if hit < len { Some(hit) } else { None }
 }
 
 // The first slot at or after `from` that is as wanted: in its word from its bit on, then in whole words.
-pub(crate) fn next_with(words: &[u64], base: usize, len: usize, want: bool, from: usize) -> Found
+pub(crate) fn next_with(
+    words: &[u64],
+    base: usize,
+    len: usize,
+    want: bool,
+    from: usize,
+) -> Option<usize>
     requires { (base + 16 ≤ length words.now) × (len ≤ 1024) }
     ensures { result ≡ next_with (value_of want) (slot words.now base) len from }
 {
@@ -52,28 +54,31 @@ pub(crate) fn next_with(words: &[u64], base: usize, len: usize, want: bool, from
         }
         return found_below(len, j * 64 + k);
     }
-    Found::Nothing
+    None
 }
 
 // The first slot from word `first` on that is as wanted. No word is masked, so that one with none costs one comparison.
-fn next_in_words(words: &[u64], base: usize, len: usize, want: bool, first: usize) -> Found
+fn next_in_words(words: &[u64], base: usize, len: usize, want: bool, first: usize) -> Option<usize>
     requires { (base + 16 ≤ length words.now) × (len ≤ 1024) × (first ≤ 16) }
     ensures { result ≡ next_with (value_of want) (slot words.now base) len (first * 64) }
 {
-    let mut j = first;
-    while j * 64 < len {
+    for j in first..(len + 63) / 64 {
         let k = word::first_bit(words[base + j], want, 0);
-        if k == 64 {
-            j += 1;
-        } else {
+        if k != 64 {
             return found_below(len, j * 64 + k);
         }
     }
-    Found::Nothing
+    None
 }
 
 // The last slot below `before` that is as wanted: in its word up to its bit, then in whole words.
-pub(crate) fn last_below(words: &[u64], base: usize, len: usize, want: bool, before: usize) -> Found
+pub(crate) fn last_below(
+    words: &[u64],
+    base: usize,
+    len: usize,
+    want: bool,
+    before: usize,
+) -> Option<usize>
     requires { (base + 16 ≤ length words.now) × (len ≤ 1024) }
     ensures { result ≡ last_below (value_of want) (slot words.now base) len before }
 {
@@ -85,27 +90,23 @@ pub(crate) fn last_below(words: &[u64], base: usize, len: usize, want: bool, bef
         if k == 0 {
             return last_in_words(words, base, want, j);
         }
-        return Found::At(j * 64 + k - 1);
+        return Some(j * 64 + k - 1);
     }
-    Found::Nothing
+    None
 }
 
 // The last slot below word `before` that is as wanted. No word is masked, so that one with none costs one comparison.
-fn last_in_words(words: &[u64], base: usize, want: bool, before: usize) -> Found
+fn last_in_words(words: &[u64], base: usize, want: bool, before: usize) -> Option<usize>
     requires { (base + 16 ≤ length words.now) × (before ≤ 16) }
     ensures { result ≡ down (value_of want) (slot words.now base) (before * 64) }
 {
-    let mut end = before;
-    while 0 < end {
-        let j = end - 1;
+    for j in (0..before).rev() {
         let k = word::last_bit(words[base + j], want, 63);
-        if k == 0 {
-            end = j;
-        } else {
-            return Found::At(j * 64 + k - 1);
+        if k != 0 {
+            return Some(j * 64 + k - 1);
         }
     }
-    Found::Nothing
+    None
 }
 
 // How many members the set has: whole words, then what is left of the last one. Of the longest set how many words is known beforehand.
@@ -131,10 +132,8 @@ fn count_words(words: &[u64], base: usize, whole: usize) -> usize
     ensures { (result ≡ size (slot words.now base) (whole * 64)) × (result ≤ whole * 64) }
 {
     let mut n = 0;
-    let mut j = 0;
-    while j < whole {
+    for j in 0..whole {
         n += word::ones_below(words[base + j], 64);
-        j += 1;
     }
     n
 }
@@ -144,12 +143,9 @@ pub(crate) fn same(a: &[u64], b: &[u64], base: usize, len: usize) -> bool
     requires { (base + 16 ≤ length a.now) × (base + 16 ≤ length b.now) × (len ≤ 1024) }
     ensures { result ≡ same_slots (slot a.now base) (slot b.now base) len }
 {
-    let mut j = 0;
-    while j * 64 < len {
+    for j in 0..(len + 63) / 64 {
         let e = least(64, len - j * 64);
-        if word::same_below(a[base + j], b[base + j], e) {
-            j += 1;
-        } else {
+        if !word::same_below(a[base + j], b[base + j], e) {
             return false;
         }
     }
@@ -163,6 +159,7 @@ pub(crate) fn put_slots(words: &mut [u64], base: usize, want: bool, from: usize,
 {
     let x = word::every(want);
     let mut at = from;
+    // a while: the first and the last step take a part of their word, so no range of words is walked
     while at < to {
         let j = at / 64;
         let e = least(64, to - j * 64);
@@ -176,10 +173,8 @@ fn clear_words(words: &mut [u64], base: usize, whole: usize)
     requires { (base + 16 ≤ length words.old) × (whole ≤ 16) }
     ensures { words.new ≡ put_slots (λ _. 0) base 0 (whole * 64) words.old }
 {
-    let mut j: usize = 0;
-    while j < whole {
+    for j in 0..whole {
         words[base + j] = word::merge(words[base + j], 0, 0, 64);
-        j += 1;
     }
 }
 
@@ -202,6 +197,7 @@ pub(crate) fn copy_slots(src: &[u64], len: usize, words: &mut [u64], base: usize
     ensures { words.new ≡ put_slots (slot src.now 0) base 0 len words.old }
 {
     let mut at = 0;
+    // a while, as in `put_slots`
     while at < len {
         let j = at / 64;
         let e = least(64, len - j * 64);
@@ -215,15 +211,12 @@ fn skip_down(words: &[u64], base: usize, x: u64, before: usize) -> usize
     requires { base + before ≤ length words.now }
     ensures { SkippedDown words.now base x before result }
 {
-    let mut end = before;
-    while 1 < end {
-        if words[base + end - 1] == x {
-            end -= 1;
-        } else {
-            return end;
+    for j in (1..before).rev() {
+        if words[base + j] != x {
+            return j + 1;
         }
     }
-    end
+    before.min(1)
 }
 
 // The first word from `first` up to `end` that is not x, or `end`.
@@ -231,15 +224,12 @@ fn skip_up(words: &[u64], base: usize, x: u64, first: usize, end: usize) -> usiz
     requires { (base + end ≤ length words.now) × (first ≤ end) }
     ensures { SkippedUp words.now base x first end result }
 {
-    let mut j = first;
-    while j < end {
-        if words[base + j] == x {
-            j += 1;
-        } else {
+    for j in first..end {
+        if words[base + j] != x {
             return j;
         }
     }
-    j
+    end
 }
 
 // The last slot of a stretch that a search from one of its slots ended at `hit`: one before that, or the last slot.
@@ -320,7 +310,7 @@ pub(crate) fn held_by(want: bool, first: usize, last: usize) -> Run
 // The run that holds slot i, or the hole.
 pub(crate) fn run_bounds(words: &[u64], base: usize, len: usize, i: usize) -> Run
     requires { (base + 16 ≤ length words.now) × (len ≤ 1024) }
-    ensures { result ≡ run_as 0 (slot words.now base) len i }
+    ensures { result ≡ run_at (slot words.now base) len i }
 {
     if i < len {
         let want = contains(words, base, len, i);
@@ -331,34 +321,32 @@ pub(crate) fn run_bounds(words: &[u64], base: usize, len: usize, i: usize) -> Ru
 }
 
 // One before the slot found, or the last slot.
-pub(crate) fn end_of(f: Found, len: usize) -> usize
+pub(crate) fn end_of(f: Option<usize>, len: usize) -> usize
     requires { (0 < len) × (Above 0 f) }
     ensures { result ≡ end_of len f }
 {
     match f {
-        Found::At(k) => k - 1,
-        Found::Nothing => len - 1,
-        Found::Refused(_) => 0,
+        Some(k) => k - 1,
+        None => len - 1,
     }
 }
 
 // The run that starts at the first member from `at` on, and the cursor one past it.
-pub(crate) fn next_run(words: &[u64], base: usize, len: usize, at: usize) -> NextRun
+pub(crate) fn next_run(words: &[u64], base: usize, len: usize, at: usize) -> Option<NextRun>
     requires { (base + 16 ≤ length words.now) × (len ≤ 1024) }
-    ensures { result ≡ next_run_as 0 (slot words.now base) len at }
+    ensures { result ≡ run_step (slot words.now base) len (next_set (slot words.now base) len at) }
 {
     let found = next_with(words, base, len, true, at);
     match found {
-        Found::At(first) => {
+        Some(first) => {
             let last = end_of(next_with(words, base, len, false, first + 1), len);
-            NextRun::Span {
+            Some(NextRun {
                 first,
                 last,
                 next: Cursor { at: last + 1 },
-            }
+            })
         }
-        Found::Nothing => NextRun::Done,
-        Found::Refused(n) => NextRun::Refused(n),
+        None => None,
     }
 }
 
@@ -369,14 +357,13 @@ pub(crate) fn is_empty(words: &[u64], base: usize, len: usize) -> bool
 {
     let found = next_with(words, base, len, true, 0);
     match found {
-        Found::At(_) => false,
-        Found::Nothing => true,
-        Found::Refused(_) => false,
+        Some(_) => false,
+        None => true,
     }
 }
 
 // The last member at or before `from`; a start past the end is lowered to the last slot.
-pub(crate) fn prev_set(words: &[u64], base: usize, len: usize, from: usize) -> Found
+pub(crate) fn prev_set(words: &[u64], base: usize, len: usize, from: usize) -> Option<usize>
     requires { (base + 16 ≤ length words.now) × (len ≤ 1024) }
     ensures { result ≡ prev_set (slot words.now base) len from }
 {
@@ -388,36 +375,35 @@ pub(crate) fn prev_set(words: &[u64], base: usize, len: usize, from: usize) -> F
 }
 
 // The first slot after `from` that is no member.
-pub(crate) fn next_unset_after(words: &[u64], base: usize, len: usize, from: usize) -> Found
+pub(crate) fn next_unset_after(words: &[u64], base: usize, len: usize, from: usize) -> Option<usize>
     requires { (base + 16 ≤ length words.now) × (len ≤ 1024) }
     ensures { result ≡ next_unset_after (slot words.now base) len from }
 {
     if from < len {
         next_with(words, base, len, false, from + 1)
     } else {
-        Found::Nothing
+        None
     }
 }
 
 // The next member from what was found.
-fn member_step(f: Found) -> NextMember
+fn member_step(f: Option<usize>) -> Option<NextMember>
     requires { Below 1024 f }
     ensures { result ≡ member_step f }
 {
     match f {
-        Found::At(i) => NextMember::Slot {
+        Some(i) => Some(NextMember {
             at: i,
             next: Cursor { at: i + 1 },
-        },
-        Found::Nothing => NextMember::Done,
-        Found::Refused(n) => NextMember::Refused(n),
+        }),
+        None => None,
     }
 }
 
 // The next member from `at` on, and the cursor one past it.
-pub(crate) fn next_member(words: &[u64], base: usize, len: usize, at: usize) -> NextMember
+pub(crate) fn next_member(words: &[u64], base: usize, len: usize, at: usize) -> Option<NextMember>
     requires { (base + 16 ≤ length words.now) × (len ≤ 1024) }
-    ensures { result ≡ next_member_as 0 (slot words.now base) len at }
+    ensures { result ≡ member_step (next_set (slot words.now base) len at) }
 {
     member_step(next_with(words, base, len, true, at))
 }

@@ -66,8 +66,10 @@ module _ (s : List ℕ) (most count at : ℕ) (W : Walking s most count at) wher
   walking-stops f =
       sym (lead_is (λ k. right_at s (place_of s k)) count most W.few W.right (ap (right_at s) (sym W.place) ∙ f))
 
-  pub walking-done : most ≤ count → count ≡ count_up_to s most
+  pub walking-done : most ≤ count → (most ≡ count_up_to s most) × (at ≡ place_of s most)
   unfolding count_up_to
   walking-done h =
-      let e : count ≡ most = omega (arith, W.few) in
-      e ∙ sym (lead-full (λ k. right_at s (place_of s k)) most (ap (λ (n : ℕ). all n (λ k. right_at s (place_of s k))) (sym e) ∙ W.right))
+      let e : count ≡ most = omega (arith, W.few) in (
+        sym (lead-full (λ k. right_at s (place_of s k)) most (rw e at W.right)),
+        rw e at W.place,
+      )

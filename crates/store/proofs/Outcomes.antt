@@ -1,4 +1,5 @@
 -- Laws of the tests and of the outcomes, by their numbers. Assumes nothing.
+use Rattle.std.specs.Prelude.{Result, Ok, Err}
 use mathlib.Core.Path.{◌≡◌, refl, sym, ap, ap₂, ◌∙◌}
 use mathlib.Core.Bool.{Bool, true, false, ◌&&◌, ◌||◌}
 use mathlib.Core.List.{List}
@@ -8,7 +9,7 @@ use borrow.Author.Tests.{le-leb, lt-leb, leb-true, lt-ltb, le-ltb, ltb-true}
 use lib.Dec.{leb, ltb, eqb}
 use lib.ListN.{length, take}
 use Rattle.paper.specs.Limits.{number_of}
-use Rattle.paper.specs.Rows.{refusal_of}
+use Rattle.paper.specs.Rows.{refusal_of, answer_as}
 use Rattle.paper.specs.declared.Refusal.{Refusal}
 use Rattle.paper.proofs.Logic.{both, or_left, and-stops}
 use Rattle.paper.proofs.Rows.{worked, kept, said, passed}
@@ -19,8 +20,7 @@ use Rattle.units.specs.declared.Settings.{Settings}
 use Rattle.units.specs.Settings.{settings_ok}
 use Rattle.store.specs.declared.Kept.{Kept}
 use Rattle.store.specs.declared.Asked.{Asked}
-use Rattle.store.specs.declared.Asked.TheVariants as asked
-use Rattle.store.specs.declared.Saved.TheVariants as saved
+use Rattle.store.specs.declared.Saved.{Saved}
 use Rattle.store.specs.Layout.{count_up_to, count_in, is_store}
 use Rattle.store.specs.Figures.{kept_in, body_of}
 use Rattle.store.specs.Outcome.{layout_ok, room_ok, store_tests, save_tests, ask_tests, store_row, save_row, ask_row}
@@ -102,15 +102,15 @@ save-room area used s z = room_says _ _ _ (save-passed area used s z).2
 
 -- ---- the outcomes
 
-pub ask-answered : (area : List ℕ) (used n number : ℕ) (k : Kept) (a : Asked) → number ≡ number_of (ask_row area used n) → number ≡ 0
+pub ask-answered : (area : List ℕ) (used n number : ℕ) (k : Kept) (a : Result Asked ℕ) → number ≡ number_of (ask_row area used n) → number ≡ 0
     → k ≡ kept_in (take used area) n → a ≡ answer_of k → a ≡ ask_is area used n
 unfolding ask_is
 ask-answered area used n number k a e z p q = q ∙ ap answer_of p ∙ sym (worked _ _ _ (sym e ∙ z))
 
 pub ask-refused : (area : List ℕ) (used n number : ℕ) → number ≡ number_of (ask_row area used n) → (number ≡ 0 → ⊥)
-    → asked.Refused number ≡ ask_is area used n
+    → Err number ≡ ask_is area used n
 unfolding ask_is
-ask-refused area used n number e z = ap asked.Refused e ∙ sym (kept _ _ _ (λ q. z (e ∙ q)))
+ask-refused area used n number e z = ap Err e ∙ sym (kept _ _ _ (λ q. z (e ∙ q)))
 
 body-length : (s : Settings) → length (body_of s) ≡ 8
 unfolding body_of Rattle.records.specs.Fields.le_bytes
@@ -118,21 +118,21 @@ body-length s = refl
 
 pub save-answered : (area : List ℕ) (used : ℕ) (s : Settings) (number count : ℕ) (body left : List ℕ)
     → number ≡ number_of (save_row area used s) → number ≡ 0 → count ≡ count_in (take used area) → body ≡ body_of s
-    → left ≡ with_record (written 33 body) used area → SavesAs (save_is area used s) (saved.As (count + 1) (used + 12)) left
-unfolding save_is
+    → left ≡ with_record (written 33 body) used area → SavesAs (save_is area used s) (Ok (record { number = count + 1; used = used + 12 })) left
+unfolding save_is answer_as
 save-answered area used s number count body left e z c b l =
     let z' = sym e ∙ z in
     let room = (save-room area used s z').0 in
     let put' = record-written 33 (body_of s) used area (omega (arith, body-length s)) (omega (arith, body-length s)) in
     record {
-      said = ap (λ (n : ℕ). saved.As (n + 1) (used + 12)) c ∙ sym (worked _ _ _ z');
+      said = ap {B = Result Saved ℕ} (λ (n : ℕ). Ok (record { number = n + 1; used = used + 12 })) c ∙ sym (worked _ _ _ z');
       left = l ∙ ap (λ (x : List ℕ). with_record (written 33 x) used area) b ∙ put' ∙ sym (worked _ _ _ z');
     }
 
 pub save-refused : (area : List ℕ) (used : ℕ) (s : Settings) (number : ℕ) → number ≡ number_of (save_row area used s) → (number ≡ 0 → ⊥)
-    → SavesAs (save_is area used s) (saved.Refused number) area
-unfolding save_is
+    → SavesAs (save_is area used s) (Err number) area
+unfolding save_is answer_as
 save-refused area used s number e z = record {
-  said = ap saved.Refused e ∙ sym (kept _ _ _ (λ q. z (e ∙ q)));
+  said = ap Err e ∙ sym (kept _ _ _ (λ q. z (e ∙ q)));
   left = sym (kept _ _ _ (λ q. z (e ∙ q)));
 }

@@ -7,6 +7,7 @@ use native.Mathlib.Omega.{arith}
 use borrow.Author.Tests.{le-leb, lt-leb, leb-true, lt-ltb, le-ltb, ltb-true, eq-eqb, ne_eqb, eqb-true}
 use lib.Dec.{leb, ltb, eqb}
 use lib.ListN.{length, get_or}
+use Rattle.std.proofs.Common.{Some, None}
 use Rattle.paper.proofs.Logic.{by-test, both, three, and-true, and-stops, or_left}
 use Rattle.records.specs.Fields.{le, Bytes}
 use Rattle.records.specs.Records.{Rec}
@@ -117,23 +118,22 @@ unfolding right_at
 right-other s at w f = simp (w, f)
 
 -- how far the walk steps
-pub step_right : (s : List ℕ) (at size : ℕ) → right_at s at ≡ true → size ≡ le 2 s at → 4 + size ≡ cond (right_at s at) (4 + le 2 s at) 0
-step_right s at size t e = ap (λ (n : ℕ). 4 + n) e ∙ sym (ap (λ (b : Bool). cond b (4 + le 2 s at) 0) t)
+pub step_right : (s : List ℕ) (at size : ℕ) → right_at s at ≡ true → size ≡ le 2 s at
+    → Some (4 + size) ≡ cond (right_at s at) (Some (4 + le 2 s at)) None
+step_right s at size t e = rw t (ap (λ (n : ℕ). Some (4 + n)) e)
 
-pub step-not : (s : List ℕ) (at : ℕ) → right_at s at ≡ false → 0 ≡ cond (right_at s at) (4 + le 2 s at) 0
-step-not s at f = sym (ap (λ (b : Bool). cond b (4 + le 2 s at) 0) f)
+pub step-not : (s : List ℕ) (at : ℕ) → right_at s at ≡ false → None ≡ cond (right_at s at) (Some (4 + le 2 s at)) None
+step-not s at f = rw f
 
-pub step-some : (s : List ℕ) (at n : ℕ) → n ≡ cond (right_at s at) (4 + le 2 s at) 0 → (n ≡ 0 → ⊥)
+pub step-some : (s : List ℕ) (at n : ℕ) → Some n ≡ cond (right_at s at) (Some (4 + le 2 s at)) None
     → (right_at s at ≡ true) × (n ≡ 4 + le 2 s at)
-step-some s at n e h =
-    by-test (right_at s at) _ (λ t. (t, e ∙ ap (λ (b : Bool). cond b (4 + le 2 s at) 0) t))
-    (λ f. absurd (h (e ∙ ap (λ (b : Bool). cond b (4 + le 2 s at) 0) f)))
+step-some s at n e =
+    by-test (right_at s at) _ (λ t. let q : Some n ≡ Some (4 + le 2 s at) = rw t at e in (t, cc))
+    (λ f. let q : Some n ≡ None = rw f at e in cc)
 
-pub step-none : (s : List ℕ) (at n : ℕ) → n ≡ cond (right_at s at) (4 + le 2 s at) 0 → n ≡ 0 → right_at s at ≡ false
-step-none s at n e z =
-    by-test (right_at s at) _
-    (λ t. absurd (let q : n ≡ 4 + le 2 s at = e ∙ ap (λ (b : Bool). cond b (4 + le 2 s at) 0) t in omega arith))
-    (λ f. f)
+pub step-none : (s : List ℕ) (at : ℕ) → None ≡ cond (right_at s at) (Some (4 + le 2 s at)) None → right_at s at ≡ false
+step-none s at e =
+    by-test (right_at s at) _ (λ t. let q : None ≡ Some (4 + le 2 s at) = rw t at e in cc) (λ f. f)
 
 -- ---- a record whose head was read
 

@@ -1,4 +1,5 @@
 -- A store after settings were saved: one record more at its end, and all else as it was. Assumes nothing.
+use Rattle.std.specs.Prelude.{Result, Ok, Err}
 use mathlib.Core.Path.{◌≡◌, sym, ap, ◌∙◌, subst}
 use mathlib.Core.Bool.{true}
 use mathlib.Core.List.{List, [], ◌∷◌, ◌++◌, append_assoc}
@@ -8,6 +9,7 @@ use borrow.Author.Tests.{le-leb, lt-ltb}
 use lib.ListN.{length, get_or, take, drop, length-append, get_or-append}
 use lib.Seq.{length-take-le, get_or-take, get_or-drop, get_or-append-add, take_at}
 use Rattle.paper.specs.Limits.{number_of}
+use Rattle.paper.specs.Rows.{answer_as}
 use Rattle.paper.proofs.Logic.{by-test, below_suc}
 use Rattle.paper.proofs.Rows.{worked, kept, all_pass}
 use Rattle.records.specs.Records.{Rec, record_of, bytes_of}
@@ -17,7 +19,6 @@ use Rattle.records.proofs.Mixed.{file-more}
 use Rattle.units.specs.declared.Settings.{Settings}
 use Rattle.units.specs.Settings.{settings_ok}
 use Rattle.store.specs.declared.Saved.{Saved}
-use Rattle.store.specs.declared.Saved.TheVariants as saved
 use Rattle.store.specs.Layout.{count_in, RightRecord, StoreOf}
 use Rattle.store.specs.Figures.{settings_record}
 use Rattle.store.specs.Outcome.{save_row, save_is}
@@ -73,25 +74,26 @@ pub record Accepted (area : List ℕ) (used : ℕ) (s : Settings) (number end : 
   pub ends : end ≡ used + 12
   pub written : left ≡ put (bytes_of (settings_record s)) used area
 
-pub accepted-says : (area : List ℕ) (used : ℕ) (s : Settings) (number end : ℕ) → (save_is area used s).answer ≡ saved.As number end
+pub accepted-says : (area : List ℕ) (used : ℕ) (s : Settings) (number end : ℕ) → (save_is area used s).answer ≡ Ok (record { number = number; used = end })
     → Accepted area used s number end (save_is area used s).area
-unfolding save_is
+unfolding save_is answer_as
 accepted-says area used s number end e =
     let n = number_of (save_row area used s) in
-    let done : Saved = saved.As (count_in (take used area) + 1) (used + 12) in
+    let done : Result Saved ℕ = Ok (record { number = count_in (take used area) + 1; used = used + 12 }) in
     by-test (lib.Dec.eqb n 0) _
     (λ t.
     let z = borrow.Author.Tests.eqb-true n 0 t in
-    let q : saved.As number end ≡ done = sym e ∙ worked n (saved.Refused n) done z in
-    record { free = z; numbered = cc; ends = cc; written = worked n area _ z })
+    let q : Ok (record { number = number; used = end }) ≡ done = sym e ∙ worked n (Err n) done z in
+    let w : ◌≡◌ {A = Saved} (record { number = number; used = end }) (record { number = count_in (take used area) + 1; used = used + 12 }) = cc in
+    record { free = z; numbered = ap (λ (x : Saved). x.number) w; ends = ap (λ (x : Saved). x.used) w; written = worked n area _ z })
     (λ f.
-    let q : saved.Refused n ≡ saved.As number end = sym (kept n (saved.Refused n) done (borrow.Author.Tests.eqb-false n 0 f)) ∙ e in
+    let q : Err n ≡ Ok (record { number = number; used = end }) = sym (kept n (Err n) done (borrow.Author.Tests.eqb-false n 0 f)) ∙ e in
     absurd (let z : ◌≡◌ {A = ℕ} 0 1 = cc in omega arith))
 
 -- where nothing stands against it, it is accepted
 pub saves : (area : List ℕ) (used : ℕ) (s : Settings) → number_of (save_row area used s) ≡ 0
-    → (save_is area used s).answer ≡ saved.As (count_in (take used area) + 1) (used + 12)
-unfolding save_is
+    → (save_is area used s).answer ≡ Ok (record { number = count_in (take used area) + 1; used = used + 12 })
+unfolding save_is answer_as
 saves area used s z = worked _ _ _ z
 
 -- nothing stands against it where a right store has room and the figures are right

@@ -1,9 +1,7 @@
 -- The outcome of each question to a store, refused or not. Assumes nothing.
-use Rattle.std.specs.Prelude.{◌≡◌, Bool, true, false, ◌&&◌, ◌||◌, cond, List, [], ◌∷◌, ◌++◌, ℕ, ◌+◌, leb, ltb, length, take}
+use Rattle.std.specs.Prelude.{◌≡◌, Bool, true, false, ◌&&◌, ◌||◌, cond, List, [], ◌∷◌, ◌++◌, ℕ, ◌+◌, leb, ltb, length, take, Result, Ok, Err}
 use Rattle.paper.specs.Limits.{Test, test, number_of}
-use Rattle.paper.specs.Rows.{unless}
-use Rattle.slotset.specs.declared.Number.{Number}
-use Rattle.slotset.specs.Answers.{number_as}
+use Rattle.paper.specs.Rows.{unless, answer_as}
 use Rattle.units.specs.declared.Settings.{Settings}
 use Rattle.units.specs.Settings.{settings_ok}
 use Rattle.records.specs.Records.{bytes_of}
@@ -13,7 +11,6 @@ use Rattle.store.specs.declared.Kept.TheVariants as kept
 use Rattle.store.specs.declared.Asked.{Asked}
 use Rattle.store.specs.declared.Asked.TheVariants as asked
 use Rattle.store.specs.declared.Saved.{Saved}
-use Rattle.store.specs.declared.Saved.TheVariants as saved
 use Rattle.store.specs.Layout.{records_most, count_in, is_store}
 use Rattle.store.specs.Figures.{kept_in, settings_record}
 
@@ -63,51 +60,40 @@ ask_row area used n = ask_tests (layout_ok area used) (leb used (length area)) (
 -- ---- the outcomes
 
 -- how many records
-unfoldable pub count_is : List ℕ → ℕ → Number
-count_is area used = number_as (number_of (store_row area used)) (count_in (take used area))
+unfoldable pub count_is : List ℕ → ℕ → Result ℕ ℕ
+count_is area used = answer_as (number_of (store_row area used)) (count_in (take used area))
 
 -- saving: the number of the record and the used length with it, and the area at exit
 pub record Saving : Type 0 where
-  pub answer : Saved
+  pub answer : Result Saved ℕ
   pub area : List ℕ
 
 unfoldable pub save_is : List ℕ → ℕ → Settings → Saving
 save_is area used s =
     let n = number_of (save_row area used s) in
     record {
-      answer = unless n (saved.Refused n) (saved.As (count_in (take used area) + 1) (used + 12));
+      answer = answer_as n (record { number = count_in (take used area) + 1; used = used + 12 });
       area = unless n area (put (bytes_of (settings_record s)) used area);
     }
 
--- the number of the refusal, or 0
-abbrev pub saved_refusal : Saved → ℕ
-saved_refusal (saved.As number used) = 0
-saved_refusal (saved.Refused n) = n
-
 -- an answer and an area at exit are those of w
-pub record SavesAs (w : Saving) (answer : Saved) (area : List ℕ) : Type 0 where
+pub record SavesAs (w : Saving) (answer : Result Saved ℕ) (area : List ℕ) : Type 0 where
   pub said : answer ≡ w.answer
   pub left : area ≡ w.area
 
 -- asking, where the number stands for something
-abbrev pub answer_of : Kept → Asked
-answer_of (kept.Figures s) = asked.Is s
-answer_of kept.Newer = asked.Newer
-answer_of kept.Unknown = asked.Refused 11
+abbrev pub answer_of : Kept → Result Asked ℕ
+answer_of (kept.Figures s) = Ok (asked.Is s)
+answer_of kept.Newer = Ok asked.Newer
+answer_of kept.Unknown = Err 11
 
-unfoldable pub ask_is : List ℕ → ℕ → ℕ → Asked
+unfoldable pub ask_is : List ℕ → ℕ → ℕ → Result Asked ℕ
 ask_is area used n =
     let number = number_of (ask_row area used n) in
-    unless number (asked.Refused number) (answer_of (kept_in (take used area) n))
+    unless number (Err number) (answer_of (kept_in (take used area) n))
 
 -- of a store that is laid out right: a record's figures where they pass rule 7, else 7; newer; or 11
-abbrev pub judged : Kept → Asked
-judged (kept.Figures s) = cond (settings_ok s) (asked.Is s) (asked.Refused 7)
-judged kept.Newer = asked.Newer
-judged kept.Unknown = asked.Refused 11
-
--- the number of the refusal, or 0
-abbrev pub asked_refusal : Asked → ℕ
-asked_refusal (asked.Is s) = 0
-asked_refusal asked.Newer = 0
-asked_refusal (asked.Refused n) = n
+abbrev pub judged : Kept → Result Asked ℕ
+judged (kept.Figures s) = cond (settings_ok s) (Ok (asked.Is s)) (Err 7)
+judged kept.Newer = Ok asked.Newer
+judged kept.Unknown = Err 11

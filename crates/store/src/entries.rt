@@ -10,7 +10,6 @@ use crate::figures::{body_of, kept_in};
 use crate::walk::{used_part, walk};
 use crate::{Asked, Kept, RECORDS_MOST, Saved};
 use paper::Refusal;
-use slotset::Number;
 use units::Settings;
 
 // Whether the layout of the used bytes is kept, and how many right records they open with.
@@ -74,13 +73,13 @@ fn known_ok(kept: Kept) -> bool
 }
 
 // The answer where nothing is refused.
-fn answer_of(kept: Kept) -> Asked
+fn answer_of(kept: Kept) -> Result<Asked, u8>
     ensures { result ≡ answer_of kept }
 {
     match kept {
-        Kept::Figures(s) => Asked::Is(s),
-        Kept::Newer => Asked::Newer,
-        Kept::Unknown => Asked::Refused(11),
+        Kept::Figures(s) => Ok(Asked::Is(s)),
+        Kept::Newer => Ok(Asked::Newer),
+        Kept::Unknown => Err(11),
     }
 }
 
@@ -111,20 +110,16 @@ fn ask_refusal(laid: bool, held: bool, kept: Kept) -> Refusal
 }
 
 // How many records the store has. Refusals 13, 2.
-pub fn count(area: &[u8], used: usize) -> Number
+pub fn count(area: &[u8], used: usize) -> Result<usize, u8>
     ensures { result ≡ count_is area.now used }
 {
     let l = judge_layout(area, used);
     let n = store_refusal(l.ok, used <= area.len()).number;
-    if n == 0 {
-        Number::Is(l.count)
-    } else {
-        Number::Refused(n)
-    }
+    if n == 0 { Ok(l.count) } else { Err(n) }
 }
 
 // Settings as one record more, written at the used length. Refusals 13, 2, 5, 7.
-pub fn save(area: &mut [u8], used: usize, settings: Settings) -> Saved
+pub fn save(area: &mut [u8], used: usize, settings: Settings) -> Result<Saved, u8>
     ensures { SavesAs (save_is area.old used settings) result area.new }
 {
     let l = judge_layout(area, used);
@@ -133,25 +128,21 @@ pub fn save(area: &mut [u8], used: usize, settings: Settings) -> Saved
     if n == 0 {
         let body = body_of(settings);
         records::put_record(area, used, 33, &body);
-        Saved::As {
+        Ok(Saved {
             number: (l.count + 1) as u64,
             used: (used + 12) as u64,
-        }
+        })
     } else {
-        Saved::Refused(n)
+        Err(n)
     }
 }
 
 // The settings of the record of a number. Refusals 13, 2, 7, 11.
-pub fn ask(area: &[u8], used: usize, number: usize) -> Asked
+pub fn ask(area: &[u8], used: usize, number: usize) -> Result<Asked, u8>
     ensures { result ≡ ask_is area.now used number }
 {
     let l = judge_layout(area, used);
     let kept = kept_in(area, used, l.count, number);
     let n = ask_refusal(l.ok, used <= area.len(), kept).number;
-    if n == 0 {
-        answer_of(kept)
-    } else {
-        Asked::Refused(n)
-    }
+    if n == 0 { answer_of(kept) } else { Err(n) }
 }

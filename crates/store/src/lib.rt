@@ -13,9 +13,9 @@ pub const RECORDS_MOST: usize = 128;
 
 // Settings that were saved: the record's number, and the used length with it.
 #[derive(Clone, Copy)]
-pub enum Saved {
-    As { number: u64, used: u64 },
-    Refused(u8),
+pub struct Saved {
+    pub number: u64,
+    pub used: u64,
 }
 
 // The settings asked for; or Newer, of a record that a newer writer kept.
@@ -23,7 +23,6 @@ pub enum Saved {
 pub enum Asked {
     Is(Settings),
     Newer,
-    Refused(u8),
 }
 
 // What a number stands for, before its figures are judged.

@@ -1,5 +1,5 @@
 // The walk over a store's records, right ones alone.
-ghost use Rattle.std.specs.Prelude.{◌≡◌, cond, ◌+◌, ◌≤◌, length, take};
+ghost use Rattle.std.specs.Prelude.{◌≡◌, cond, ◌+◌, ◌≤◌, length, take, Some, None};
 ghost use Rattle.records.specs.Fields.{le};
 ghost use Rattle.records.specs.Heads.{found_at, place_of};
 ghost use Rattle.store.specs.Layout.{record_right, right_at, count_up_to};
@@ -37,19 +37,13 @@ fn record_right(s: &[u8], size: usize, kind: usize, at: usize) -> bool
     false
 }
 
-// How many bytes the right record at `at` has; 0 where none stands there.
-fn step_at(s: &[u8], at: usize) -> usize
-    ensures { result ≡ cond (right_at s.now at) (4 + le 2 s.now at) 0 }
+// How many bytes the right record at `at` has; None where none stands there.
+fn step_at(s: &[u8], at: usize) -> Option<usize>
+    ensures { result ≡ cond (right_at s.now at) (Some (4 + le 2 s.now at)) None }
 {
-    let h = records::head_at(s, at);
-    match h {
-        Head::Whole { size, kind } => {
-            if record_right(s, size, kind, at) {
-                return 4 + size;
-            }
-            0
-        }
-        Head::Nothing => 0,
+    match records::head_at(s, at) {
+        Head::Whole { size, kind } if record_right(s, size, kind, at) => Some(4 + size),
+        _ => None,
     }
 }
 
@@ -57,25 +51,22 @@ fn step_at(s: &[u8], at: usize) -> usize
 pub(crate) fn walk(s: &[u8], most: usize) -> Walked
     ensures { (result.count ≡ count_up_to s.now most) × (result.end ≡ place_of s.now result.count) }
 {
-    let mut count: usize = 0;
     let mut at: usize = 0;
-    while count < most {
-        let step = step_at(s, at);
-        if step == 0 {
-            return Walked { count, end: at };
+    for count in 0..most {
+        match step_at(s, at) {
+            Some(step) => at += step,
+            None => return Walked { count, end: at },
         }
-        at += step;
-        count += 1;
     }
-    Walked { count, end: at }
+    Walked {
+        count: most,
+        end: at,
+    }
 }
 
 // The used bytes of an area; all of it where it is shorter.
 pub(crate) fn used_part(area: &[u8], used: usize) -> &[u8]
     ensures { result.now ≡ take used area.now }
 {
-    if area.len() < used {
-        return area;
-    }
-    &area[0..used]
+    &area[..used.min(area.len())]
 }

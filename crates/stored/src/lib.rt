@@ -1,7 +1,7 @@
 // Reading stored answers: the numbers of a record, low byte first, and the tally of what was compared. The programs `stored_*` use it.
 #![tactic(auto)]
 
-ghost use Rattle.std.specs.Prelude.{◌≡◌, ◌+◌, ◌<◌, ◌≤◌, min, true, false, if◌then◌else◌, nat_eq, slice_index};
+ghost use Rattle.std.specs.Prelude.{◌≡◌, ◌+◌, ◌<◌, ◌≤◌, min, true, false, if◌then◌else◌, nat_eq, length, slice_index, take};
 ghost use Rattle.std.specs.Io.{ReadsAtMost};
 ghost use Rattle.stored.specs.Numbers.{further, little_at, four_after};
 ghost use Rattle.stored.specs.Columns.{filled, bytes_filled, row_word, rows_filled, same, front};
@@ -31,16 +31,9 @@ impl Tally {
     pub fn with(self, same: bool) -> Tally
         ensures { (result.compared ≡ further self.compared 1) × (result.differing ≡ further self.differing (if same then 0 else 1)) }
     {
-        let compared = std::num::wrapping_add_u64(self.compared, 1);
-        if same {
-            return Tally {
-                compared,
-                differing: std::num::wrapping_add_u64(self.differing, 0),
-            };
-        }
         Tally {
-            compared,
-            differing: std::num::wrapping_add_u64(self.differing, 1),
+            compared: self.compared.wrapping_add(1),
+            differing: self.differing.wrapping_add(u64::from(!same)),
         }
     }
 }
@@ -65,11 +58,8 @@ impl Turn {
         ensures { (result.tally.compared ≡ (if nat_eq left 0 then tally.compared else further tally.compared 1))
             × ((result.tally.differing ≡ (if nat_eq left 0 then tally.differing else further tally.differing 1)) × (result.more ≡ false)) }
     {
-        if left == 0 {
-            return Turn { tally, more: false };
-        }
         Turn {
-            tally: tally.with(false),
+            tally: if left == 0 { tally } else { tally.with(false) },
             more: false,
         }
     }
@@ -80,6 +70,7 @@ pub fn read_full<R: Read>(from: &mut R, buf: &mut [u8]) -> io::Result<usize>
     ensures { ReadsAtMost result buf.new }
 {
     let mut done: usize = 0;
+    // a while: each step is as long as what a read brought, so no range is walked
     while done < buf.len() {
         let n = from.read(&mut buf[done..])?;
         if n == 0 {
@@ -94,25 +85,15 @@ pub fn read_full<R: Read>(from: &mut R, buf: &mut [u8]) -> io::Result<usize>
 pub fn plus(at: usize, k: usize) -> usize
     ensures { result ≡ further at k }
 {
-    std::num::wrapping_add_usize(at, k)
-}
-
-// A byte as a u64.
-fn wide(x: u8) -> u64
-    ensures { result ≡ x }
-{
-    x as u64
+    at.wrapping_add(k)
 }
 
 // The byte k places after an index, or 0 past the end.
 fn byte_after(b: &[u8], at: usize, k: usize) -> u64
     ensures { (result ≡ slice_index b.now (at + k)) × (result < 256) }
 {
-    if at < b.len() {
-        if k < b.len() - at {
-            return wide(b[at + k]);
-        }
-        return 0;
+    if at < b.len() && k < b.len() - at {
+        return u64::from(b[at + k]);
     }
     0
 }
@@ -153,7 +134,7 @@ fn four_after(b: &[u8], at: usize, k: usize) -> u64
 pub fn raw(b: &[u8], at: usize) -> u8
     ensures { result ≡ slice_index b.now at }
 {
-    if at < b.len() { b[at] } else { 0 }
+    b.get(at).copied().unwrap_or(0)
 }
 
 // The u16 at an index, as a u16.
@@ -188,7 +169,7 @@ pub fn size(b: &[u8], at: usize) -> usize
 pub fn at_most(n: usize, most: usize) -> usize
     ensures { (result ≡ min n most) × (result ≤ most) }
 {
-    if n < most { n } else { most }
+    n.min(most)
 }
 
 // Word j of rows of 16 words: the first of each row is stored, the others are garbage.
@@ -196,147 +177,108 @@ fn row_word(b: &[u8], at: usize, j: usize) -> u64
     ensures { result ≡ row_word b.now at j }
 {
     if j % 16 == 0 {
-        return word(b, plus(at, 8 * (j / 16)));
+        word(b, plus(at, 8 * (j / 16)))
+    } else {
+        0xa5a5_a5a5_a5a5_a5a5
     }
-    11936128518282651045
 }
 
 // Fills rows of 16 words, as slot sets are lent: the first word of each from an index on, garbage in the others.
+#[tactic(auto, using(crate::proofs::Columns::fills))]
 pub fn rows(b: &[u8], at: usize, out: &mut [u64])
     ensures { out.new ≡ rows_filled b.now at out.old }
 {
-    let mut j: usize = 0;
-    while j < out.len() {
-        out[j] = row_word(b, at, j);
-        j += 1;
+    for (j, x) in out.iter_mut().enumerate() {
+        *x = row_word(b, at, j);
     }
 }
 
 // Fills a column with the bytes from an index on.
+#[tactic(auto, using(crate::proofs::Columns::fills))]
 pub fn raws(b: &[u8], at: usize, out: &mut [u8])
     ensures { out.new ≡ bytes_filled b.now at out.old }
 {
-    let mut j: usize = 0;
-    while j < out.len() {
-        out[j] = raw(b, plus(at, j));
-        j += 1;
+    for (j, x) in out.iter_mut().enumerate() {
+        *x = raw(b, plus(at, j));
     }
 }
 
 // Fills a column with the u16 from an index on.
+#[tactic(auto, using(crate::proofs::Columns::fills))]
 pub fn shorts(b: &[u8], at: usize, out: &mut [u16])
     ensures { out.new ≡ filled 2 b.now at out.old }
 {
-    let mut j: usize = 0;
-    while j < out.len() {
-        out[j] = short(b, plus(at, 2 * j));
-        j += 1;
+    for (j, x) in out.iter_mut().enumerate() {
+        *x = short(b, plus(at, 2 * j));
     }
 }
 
 // Fills a column with the u32 from an index on.
+#[tactic(auto, using(crate::proofs::Columns::fills))]
 pub fn quads(b: &[u8], at: usize, out: &mut [u32])
     ensures { out.new ≡ filled 4 b.now at out.old }
 {
-    let mut j: usize = 0;
-    while j < out.len() {
-        out[j] = quad(b, plus(at, 4 * j));
-        j += 1;
+    for (j, x) in out.iter_mut().enumerate() {
+        *x = quad(b, plus(at, 4 * j));
     }
 }
 
 // Whether two columns of u8 are the same.
+#[tactic(auto, using(crate::proofs::Columns::by_equal))]
 pub fn same_raws(a: &[u8], b: &[u8]) -> bool
     ensures { result ≡ same a.now b.now }
 {
-    if a.len() == b.len() {
-        let mut j: usize = 0;
-        while j < a.len() {
-            if a[j] == b[j] {
-                j += 1;
-            } else {
-                return false;
-            }
-        }
-        return true;
-    }
-    false
+    a == b
 }
 
 // Whether two columns of u16 are the same.
+#[tactic(auto, using(crate::proofs::Columns::by_equal))]
 pub fn same_shorts(a: &[u16], b: &[u16]) -> bool
     ensures { result ≡ same a.now b.now }
 {
-    if a.len() == b.len() {
-        let mut j: usize = 0;
-        while j < a.len() {
-            if a[j] == b[j] {
-                j += 1;
-            } else {
-                return false;
-            }
-        }
-        return true;
-    }
-    false
+    a == b
 }
 
 // Whether two columns of u32 are the same.
+#[tactic(auto, using(crate::proofs::Columns::by_equal))]
 pub fn same_quads(a: &[u32], b: &[u32]) -> bool
     ensures { result ≡ same a.now b.now }
 {
-    if a.len() == b.len() {
-        let mut j: usize = 0;
-        while j < a.len() {
-            if a[j] == b[j] {
-                j += 1;
-            } else {
-                return false;
-            }
-        }
-        return true;
-    }
-    false
+    a == b
 }
 
 // Whether two columns of u64 are the same.
+#[tactic(auto, using(crate::proofs::Columns::by_equal))]
 pub fn same_words(a: &[u64], b: &[u64]) -> bool
     ensures { result ≡ same a.now b.now }
 {
-    if a.len() == b.len() {
-        let mut j: usize = 0;
-        while j < a.len() {
-            if a[j] == b[j] {
-                j += 1;
-            } else {
-                return false;
-            }
-        }
-        return true;
-    }
-    false
+    a == b
 }
 
-// The first n entries of a column of u16, or all where it has fewer.
+// The first n entries of a column, or all where it has fewer.
+fn front<T>(s: &[T], n: usize) -> &[T]
+    ensures { result.now ≡ take (min n (length s.now)) s.now }
+{
+    &s[..n.min(s.len())]
+}
+
+// The same of a column of u16.
 pub fn front_shorts(s: &[u16], n: usize) -> &[u16]
     ensures { result.now ≡ front n s.now }
 {
-    let k = at_most(n, s.len());
-    &s[0..k]
+    front(s, n)
 }
 
-// The first n entries of a column of u32, or all where it has fewer.
+// The same of a column of u32.
 pub fn front_quads(s: &[u32], n: usize) -> &[u32]
     ensures { result.now ≡ front n s.now }
 {
-    let k = at_most(n, s.len());
-    &s[0..k]
+    front(s, n)
 }
 
-// The first n entries of a column of u64, or all where it has fewer.
+// The same of a column of u64.
 pub fn front_words(s: &[u64], n: usize) -> &[u64]
     ensures { result.now ≡ front n s.now }
 {
-    let k = at_most(n, s.len());
-    &s[0..k]
+    front(s, n)
 }

@@ -5,7 +5,6 @@
 
 ghost use Rattle.std.specs.Prelude.{◌≤◌};
 
-use slotset::YesNo;
 use std::io;
 use std::io::Read;
 use stored::{Tally, at_most, front_words, half, plus, raw, raws, read_full, same_raws, word};
@@ -66,28 +65,22 @@ fn is_column(got: &[u8; MOST], b: &[u8], at: usize) -> bool {
 }
 
 // Which column, as it is stored: 1, 0, or a refusal's number past 100.
-fn told(answer: YesNo) -> usize {
+fn told(answer: Result<bool, u8>) -> usize {
     match answer {
-        YesNo::Yes => 1,
-        YesNo::No => 0,
-        YesNo::Refused(n) => 100 + n as usize,
+        Ok(true) => 1,
+        Ok(false) => 0,
+        Err(n) => 100 + n as usize,
     }
 }
 
 // Whether a part has as many owners as are due, and each is the one read of its slot.
 fn is_part(part: &[u8], b: &[u8], slot: usize, length: usize) -> bool {
-    if part.len() == length {
-        let mut k: usize = 0;
-        while k < part.len() {
-            if part[k] == raw(b, plus(plus(READ_AT, slot), k)) {
-                k += 1;
-            } else {
-                return false;
-            }
-        }
-        return true;
-    }
-    false
+    let read = plus(READ_AT, slot);
+    part.len() == length
+        && part
+            .iter()
+            .enumerate()
+            .all(|(k, owner)| *owner == raw(b, plus(read, k)))
 }
 
 // The answers on one slot: the number, the column, the part.
@@ -173,10 +166,8 @@ fn records<R: Read>(from: &mut R) -> io::Result<usize> {
 // Every record.
 fn compare<R: Read>(from: &mut R) -> io::Result<Tally> {
     let mut t = Tally::none();
-    let mut left = records(from)?;
-    while left > 0 {
+    for _ in 0..records(from)? {
         t = one_record(from, t)?;
-        left -= 1;
     }
     Ok(t)
 }

@@ -2,11 +2,10 @@
 // compared and how many differ. `oracle/store` writes them (oracle/src/stored_jobs.rs has their layout).
 #![tactic(auto)]
 
-use job::JobAnswer;
 use paper::Refusal;
 use std::io;
 use std::io::{Print, Read};
-use stored::{Tally, Turn, at_most, half, raw, read_full, same_raws, short};
+use stored::{Tally, Turn, at_most, half, read_full, same_raws, short};
 
 // A stored job begins with two u16: the length of its file, and of the text that is due. Both follow.
 const HEAD: usize = 4;
@@ -25,13 +24,7 @@ fn same_text(got: &[u8], n: usize, due: &[u8]) -> bool {
 
 // Whether nothing was written from an index on.
 fn unwritten(out: &[u8], from: usize) -> bool {
-    let mut same = true;
-    for j in from..out.len() {
-        if raw(out, j) != UNWRITTEN {
-            same = false;
-        }
-    }
-    same
+    out.iter().skip(from).all(|byte| *byte == UNWRITTEN)
 }
 
 // Whether the line of a refusal is the text that is due.
@@ -39,8 +32,8 @@ fn same_line(refusal: Refusal, due: &[u8]) -> bool {
     let mut line = [0u8; LINE];
     let answer = job::refusal_line(refusal, &mut line);
     match answer {
-        JobAnswer::Length(n) => same_text(&line, n, due),
-        JobAnswer::Refused(_) => false,
+        Ok(n) => same_text(&line, n, due),
+        Err(_) => false,
     }
 }
 
@@ -49,8 +42,8 @@ fn as_due(file: &[u8], due: &[u8]) -> bool {
     let mut out = [UNWRITTEN; 65536];
     let answer = job::run_job(file, &mut out);
     match answer {
-        JobAnswer::Length(n) => same_text(&out, n, due) && unwritten(&out, n),
-        JobAnswer::Refused(refusal) => same_line(refusal, due) && unwritten(&out, 0),
+        Ok(n) => same_text(&out, n, due) && unwritten(&out, n),
+        Err(refusal) => same_line(refusal, due) && unwritten(&out, 0),
     }
 }
 
@@ -84,17 +77,14 @@ fn one_job<R: Read>(from: &mut R, tally: Tally) -> io::Result<Turn> {
     Ok(Turn::last(tally, got))
 }
 
-// Every job of the input. A proved loop has to end, so it counts its turns down from a number that no input uses up.
+// Every job of the input. A proved loop has to end, so it takes as many turns at most as no input has.
 fn compare<R: Read>(from: &mut R) -> io::Result<Tally> {
     let mut t = Tally::none();
-    let mut turns = u64::MAX;
-    while turns > 0 {
+    for _ in 0..u64::MAX {
         let last = one_job(from, t)?;
         t = last.tally;
-        if last.more {
-            turns -= 1;
-        } else {
-            return Ok(t);
+        if !last.more {
+            break;
         }
     }
     Ok(t)

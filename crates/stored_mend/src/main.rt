@@ -3,7 +3,6 @@
 // many differ. `oracle/store` writes the records (oracle/src/stored_mending.rs has their layout).
 #![tactic(auto)]
 
-use slotset::Number;
 use std::io;
 use std::io::{Print, Read};
 use stored::{
@@ -49,7 +48,7 @@ const REFUSED: usize = 60000;
 // A rota, the list, and what was answered.
 #[derive(Clone, Copy)]
 struct After {
-    number: Number,
+    number: Result<usize, u8>,
     owners: [u8; 8],
     sets: [u64; 64],
     minutes: [u64; 4],
@@ -114,7 +113,7 @@ fn mend_into(
     worked: &mut [u64],
     open: &mut [u64],
     list: &mut [u64],
-) -> Number {
+) -> Result<usize, u8> {
     let mut starts = [0u32; 8];
     let mut ends = [0u32; 8];
     let mut units = [0u16; 8];
@@ -151,7 +150,7 @@ fn mend_with(
     open: &mut [u64],
     list: &mut [u64],
     room: usize,
-) -> Number {
+) -> Result<usize, u8> {
     let k = at_most(room, list.len());
     mend_into(b, who, own, worked, open, &mut list[..k])
 }
@@ -184,21 +183,18 @@ fn mended(b: &[u8]) -> After {
 }
 
 // Whether the answer is the one that is due.
-fn is_due(number: Number, b: &[u8]) -> bool {
+fn is_due(number: Result<usize, u8>, b: &[u8]) -> bool {
     let due = half(b, REPAIRS_AT);
     match number {
-        Number::Is(n) => n == due,
-        Number::Refused(n) => n as usize + REFUSED == due,
+        Ok(n) => n == due,
+        Err(n) => n as usize + REFUSED == due,
     }
 }
 
 // Whether the list is the one that is due.
 fn is_list(list: &[u64], b: &[u8]) -> bool {
-    let mut k: usize = 0;
-    while k < list.len() {
-        if list[k] == word(b, plus(LIST_AT, 8 * k)) {
-            k += 1;
-        } else {
+    for (k, repair) in list.iter().enumerate() {
+        if *repair != word(b, plus(LIST_AT, 8 * k)) {
             return false;
         }
     }
@@ -206,24 +202,24 @@ fn is_list(list: &[u64], b: &[u8]) -> bool {
 }
 
 // Whether no repair was made.
-fn is_none(number: Number) -> bool {
+fn is_none(number: Result<usize, u8>) -> bool {
     match number {
-        Number::Is(n) => n == 0,
-        Number::Refused(_) => false,
+        Ok(n) => n == 0,
+        Err(_) => false,
     }
 }
 
 // Whether a rota that was mended needs no repair, for which no list is needed; one that was refused isn't asked.
 fn is_mended(
     b: &[u8],
-    number: Number,
+    number: Result<usize, u8>,
     owners: [u8; 8],
     sets: [u64; 64],
     minutes: [u64; 4],
     totals: [u64; 2],
 ) -> bool {
     match number {
-        Number::Is(_) => {
+        Ok(_) => {
             let mut who = owners_again(owners);
             let mut own = sets_again(sets);
             let mut worked = minutes_again(minutes);
@@ -231,7 +227,7 @@ fn is_mended(
             let mut list = [0u64; 1];
             is_none(mend_with(b, &mut who, &mut own, &mut worked, &mut open, &mut list, 0))
         }
-        Number::Refused(_) => true,
+        Err(_) => true,
     }
 }
 
@@ -263,17 +259,14 @@ fn one_record<R: Read>(from: &mut R, tally: Tally) -> io::Result<Turn> {
     Ok(Turn::last(tally, got))
 }
 
-// Every record of the input. A proved loop has to end, so it counts its turns down from a number that no input uses up.
+// Every record of the input. A proved loop has to end, so it takes as many turns at most as no input has.
 fn compare<R: Read>(from: &mut R) -> io::Result<Tally> {
     let mut t = Tally::none();
-    let mut turns = u64::MAX;
-    while turns > 0 {
+    for _ in 0..u64::MAX {
         let last = one_record(from, t)?;
         t = last.tally;
-        if last.more {
-            turns -= 1;
-        } else {
-            return Ok(t);
+        if !last.more {
+            break;
         }
     }
     Ok(t)

@@ -2,11 +2,11 @@
 // how many it compared and how many differ. `oracle/store` writes them (oracle/src/stored_recordings.rs has their layout).
 #![tactic(auto)]
 
-use job::{Begun, Ending, JobAnswer};
+use job::{Begun, Ending};
 use replay::Played;
 use std::io;
 use std::io::{Print, Read};
-use stored::{Tally, Turn, at_most, half, raw, read_full, same_raws, short};
+use stored::{Tally, Turn, at_most, half, read_full, same_raws, short};
 
 // A stored recording begins with two u16: the length of its file, and of the text that is due. Both follow.
 const HEAD: usize = 4;
@@ -25,13 +25,7 @@ fn same_text(got: &[u8], n: usize, due: &[u8]) -> bool {
 
 // Whether nothing was written from an index on.
 fn unwritten(out: &[u8], from: usize) -> bool {
-    let mut same = true;
-    for j in from..out.len() {
-        if raw(out, j) != UNWRITTEN {
-            same = false;
-        }
-    }
-    same
+    out.iter().skip(from).all(|byte| *byte == UNWRITTEN)
 }
 
 // Where `used` bytes more end, or where the bytes end.
@@ -53,8 +47,8 @@ fn same_last(end: Ending, due: &[u8], at: usize) -> bool {
     let answer = job::last_line(end, &mut line);
     let from = at_most(at, due.len());
     match answer {
-        JobAnswer::Length(n) => same_text(&line, n, &due[from..]),
-        JobAnswer::Refused(_) => false,
+        Ok(n) => same_text(&line, n, &due[from..]),
+        Err(_) => false,
     }
 }
 
@@ -72,8 +66,7 @@ fn same_blocks(blocks: &[u8], due: &[u8], b: Begun) -> bool {
     let mut totals = b.totals;
     let mut at: usize = 0;
     let mut shown: usize = 0;
-    let mut block: usize = 0;
-    while block <= replay::BLOCKS_MOST {
+    for block in 0..=replay::BLOCKS_MOST {
         let mut out = [UNWRITTEN; 65536];
         let from = at_most(at, blocks.len());
         let played = replay::play_block(
@@ -101,7 +94,6 @@ fn same_blocks(blocks: &[u8], due: &[u8], b: Begun) -> bool {
                 }
                 at = after(from, next, blocks.len());
                 shown = after(shown, length, due.len());
-                block += 1;
             }
             Played::Last { length, end } => {
                 let same = same_next(&out, length, due, shown);
@@ -153,17 +145,14 @@ fn one_recording<R: Read>(from: &mut R, tally: Tally) -> io::Result<Turn> {
     Ok(Turn::last(tally, got))
 }
 
-// Every recording of the input. A proved loop has to end, so it counts its turns down from a number that no input uses up.
+// Every recording of the input. A proved loop has to end, so it takes as many turns at most as no input has.
 fn compare<R: Read>(from: &mut R) -> io::Result<Tally> {
     let mut t = Tally::none();
-    let mut turns = u64::MAX;
-    while turns > 0 {
+    for _ in 0..u64::MAX {
         let last = one_recording(from, t)?;
         t = last.tally;
-        if last.more {
-            turns -= 1;
-        } else {
-            return Ok(t);
+        if !last.more {
+            break;
         }
     }
     Ok(t)

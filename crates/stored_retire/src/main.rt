@@ -204,7 +204,7 @@ fn asked(
     totals: &mut [u64],
     priors: &mut [u32],
     retired: &mut [u64],
-) -> Retiring {
+) -> Result<Retiring, Refusal> {
     let froms = four(b, FROMS_AT);
     let tos = four(b, TOS_AT);
     let persons = six_persons(b);
@@ -256,12 +256,12 @@ fn is_refusal(got: Refusal, b: &[u8]) -> bool {
 }
 
 // Whether the answer is the one that is due.
-fn is_answer(got: Retiring, b: &[u8]) -> bool {
+fn is_answer(got: Result<Retiring, Refusal>, b: &[u8]) -> bool {
     match got {
-        Retiring::Retired { gone, slots, units } => is_told(b, 0, gone, slots, units, 0),
-        Retiring::Nothing => is_told(b, 1, 0, 0, 0, 0),
-        Retiring::Everything => is_told(b, 2, 0, 0, 0, 0),
-        Retiring::Refused(refusal) => is_refusal(refusal, b),
+        Ok(Retiring::Retired { gone, slots, units }) => is_told(b, 0, gone, slots, units, 0),
+        Ok(Retiring::Nothing) => is_told(b, 1, 0, 0, 0, 0),
+        Ok(Retiring::Everything) => is_told(b, 2, 0, 0, 0, 0),
+        Err(refusal) => is_refusal(refusal, b),
     }
 }
 
@@ -358,17 +358,14 @@ fn one_record<R: Read>(from: &mut R, tally: Tally) -> io::Result<Turn> {
     Ok(Turn::last(tally, got))
 }
 
-// Every record of the input. A proved loop has to end, so it counts its turns down from a number that no input uses up.
+// Every record of the input. A proved loop has to end, so it takes as many turns at most as no input has.
 fn compare<R: Read>(from: &mut R) -> io::Result<Tally> {
     let mut t = Tally::none();
-    let mut turns = u64::MAX;
-    while turns > 0 {
+    for _ in 0..u64::MAX {
         let last = one_record(from, t)?;
         t = last.tally;
-        if last.more {
-            turns -= 1;
-        } else {
-            return Ok(t);
+        if !last.more {
+            break;
         }
     }
     Ok(t)

@@ -605,10 +605,8 @@ fn records<R: Read>(from: &mut R) -> io::Result<usize> {
 // Every record of a section.
 fn compare<R: Read>(from: &mut R, section: usize) -> io::Result<Tally> {
     let mut t = Tally::none();
-    let mut left = records(from)?;
-    while left > 0 {
+    for _ in 0..records(from)? {
         t = one_record(from, section, t)?;
-        left -= 1;
     }
     Ok(t)
 }

@@ -4,8 +4,6 @@
 
 ghost use Rattle.std.specs.Prelude.{◌≤◌};
 
-use slots::Minutes;
-use slotset::{Number, YesNo};
 use std::io;
 use std::io::{Print, Read};
 use stored::{
@@ -179,18 +177,18 @@ fn refused_minutes(number: u8) -> u64 {
 }
 
 // An answer as it is stored: a count, yes or no, a number alone, minutes.
-fn counted(answer: Number) -> usize {
+fn counted(answer: Result<usize, u8>) -> usize {
     match answer {
-        Number::Is(k) => k,
-        Number::Refused(n) => refused(n),
+        Ok(k) => k,
+        Err(n) => refused(n),
     }
 }
 
-fn yes_no(answer: YesNo) -> usize {
+fn yes_no(answer: Result<bool, u8>) -> usize {
     match answer {
-        YesNo::Yes => 1,
-        YesNo::No => 0,
-        YesNo::Refused(n) => refused(n),
+        Ok(true) => 1,
+        Ok(false) => 0,
+        Err(n) => refused(n),
     }
 }
 
@@ -198,10 +196,10 @@ fn number(n: u8) -> usize {
     if n == 0 { 0 } else { refused(n) }
 }
 
-fn minutes(answer: Minutes) -> u64 {
+fn minutes(answer: Result<u64, u8>) -> u64 {
     match answer {
-        Minutes::Is(m) => m,
-        Minutes::Refused(n) => refused_minutes(n),
+        Ok(m) => m,
+        Err(n) => refused_minutes(n),
     }
 }
 
@@ -361,17 +359,14 @@ fn one_record<R: Read>(from: &mut R, tally: Tally) -> io::Result<Turn> {
     Ok(Turn::last(tally, got))
 }
 
-// Every record of the input. A proved loop has to end, so it counts its turns down from a number that no input uses up.
+// Every record of the input. A proved loop has to end, so it takes as many turns at most as no input has.
 fn compare<R: Read>(from: &mut R) -> io::Result<Tally> {
     let mut t = Tally::none();
-    let mut turns = u64::MAX;
-    while turns > 0 {
+    for _ in 0..u64::MAX {
         let last = one_record(from, t)?;
         t = last.tally;
-        if last.more {
-            turns -= 1;
-        } else {
-            return Ok(t);
+        if !last.more {
+            break;
         }
     }
     Ok(t)

@@ -2,7 +2,7 @@
 // it compared and how many differ. `oracle/store` writes the records (oracle/src/stored.rs has their layout).
 #![tactic(auto)]
 
-use slotset::{Found, NextRun, Run, SlotSet, YesNo, row};
+use slotset::{NextRun, Run, SlotSet, row};
 use std::io;
 use std::io::{Print, Read};
 use stored::{Tally, Turn, half, plus, read_full, same_words, word};
@@ -38,60 +38,56 @@ fn is_after(changed: slotset::Changed, b: &[u8], at: usize) -> bool {
 }
 
 // An answer as it is stored: yes or no, a number, a slot or nothing.
-fn yes_no(answer: YesNo) -> usize {
+fn yes_no(answer: Result<bool, u8>) -> usize {
     match answer {
-        YesNo::Yes => 1,
-        YesNo::No => 0,
-        YesNo::Refused(_) => REFUSED,
+        Ok(true) => 1,
+        Ok(false) => 0,
+        Err(_) => REFUSED,
     }
 }
 
-fn counted(answer: slotset::Number) -> usize {
-    match answer {
-        slotset::Number::Is(k) => k,
-        slotset::Number::Refused(_) => REFUSED,
-    }
+fn counted(answer: Result<usize, u8>) -> usize {
+    answer.unwrap_or(REFUSED)
 }
 
-fn found(answer: Found) -> usize {
+fn found(answer: Result<Option<usize>, u8>) -> usize {
     match answer {
-        Found::At(i) => i,
-        Found::Nothing => NOTHING,
-        Found::Refused(_) => REFUSED,
+        Ok(slot) => slot.unwrap_or(NOTHING),
+        Err(_) => REFUSED,
     }
 }
 
 // Whether a stretch is what an index has: 0, a run, or 1, a hole, with its two ends; or nothing.
-fn is_run(answer: Run, b: &[u8], at: usize) -> bool {
+fn is_run(answer: Result<Run, u8>, b: &[u8], at: usize) -> bool {
     let number = half(b, at);
     let first = half(b, plus(at, 2));
     let last = half(b, plus(at, 4));
     match answer {
-        Run::Span {
-            first: low,
-            last: high,
-        } => number == 0 && low == first && high == last,
-        Run::Hole {
-            first: low,
-            last: high,
-        } => number == 1 && low == first && high == last,
-        Run::Outside => number == NOTHING && first == NOTHING && last == NOTHING,
-        Run::Refused(_) => false,
+        Ok(
+            Run::Span {
+                first: low,
+                last: high,
+            },
+        ) => number == 0 && low == first && high == last,
+        Ok(
+            Run::Hole {
+                first: low,
+                last: high,
+            },
+        ) => number == 1 && low == first && high == last,
+        Ok(Run::Outside) => number == NOTHING && first == NOTHING && last == NOTHING,
+        Err(_) => false,
     }
 }
 
 // The same of the next run, whose cursor is one past it.
-fn is_next_run(answer: NextRun, b: &[u8], at: usize) -> bool {
+fn is_next_run(answer: Result<Option<NextRun>, u8>, b: &[u8], at: usize) -> bool {
     let first = half(b, at);
     let last = half(b, plus(at, 2));
     match answer {
-        NextRun::Span {
-            first: low,
-            last: high,
-            next: after,
-        } => { low == first && high == last && after.at == plus(last, 1) }
-        NextRun::Done => first == NOTHING && last == NOTHING,
-        NextRun::Refused(_) => false,
+        Ok(Some(run)) => run.first == first && run.last == last && run.next.at == plus(last, 1),
+        Ok(None) => first == NOTHING && last == NOTHING,
+        Err(_) => false,
     }
 }
 
@@ -153,17 +149,14 @@ fn one_record<R: Read>(from: &mut R, tally: Tally) -> io::Result<Turn> {
     Ok(Turn::last(tally, got))
 }
 
-// Every record of the input. A proved loop has to end, so it counts its turns down from a number that no input uses up.
+// Every record of the input. A proved loop has to end, so it takes as many turns at most as no input has.
 fn compare<R: Read>(from: &mut R) -> io::Result<Tally> {
     let mut t = Tally::none();
-    let mut turns = u64::MAX;
-    while turns > 0 {
+    for _ in 0..u64::MAX {
         let last = one_record(from, t)?;
         t = last.tally;
-        if last.more {
-            turns -= 1;
-        } else {
-            return Ok(t);
+        if !last.more {
+            break;
         }
     }
     Ok(t)

@@ -4,10 +4,9 @@
 
 ghost use Rattle.std.specs.Prelude.{◌<◌};
 
-use slotset::Number;
 use std::io;
 use std::io::{Print, Read};
-use store::{Asked, Saved};
+use store::Asked;
 use stored::{Tally, Turn, at_most, half, raw, read_full, same_raws, short};
 use units::Settings;
 
@@ -47,19 +46,18 @@ fn counted(head: &[u8], area: &[u8]) -> bool {
     let due = half(head, 6) as u64;
     let answer = store::count(area, half(head, 2));
     match answer {
-        Number::Is(k) => k as u64 == due,
-        Number::Refused(n) => refused(n) == due,
+        Ok(k) => k as u64 == due,
+        Err(n) => refused(n) == due,
     }
 }
 
 // Whether the number that is asked for answers as is due.
 fn asked(head: &[u8], area: &[u8]) -> bool {
     let due = half(head, 8) as u64;
-    let answer = store::ask(area, half(head, 2), half(head, 4));
-    match answer {
-        Asked::Is(s) => due == 0 && same_figures(s, figures(head, 10)),
-        Asked::Newer => due == 1,
-        Asked::Refused(n) => refused(n) == due,
+    match store::ask(area, half(head, 2), half(head, 4)) {
+        Ok(Asked::Is(s)) => due == 0 && same_figures(s, figures(head, 10)),
+        Ok(Asked::Newer) => due == 1,
+        Err(n) => refused(n) == due,
     }
 }
 
@@ -69,11 +67,11 @@ fn saved(head: &[u8], area: &mut [u8], after: &[u8]) -> bool {
     let answer = store::save(area, half(head, 2), figures(head, 18));
     let same = same_raws(area, after);
     match answer {
-        Saved::As { number, used } => due == 0
-            && number == half(head, 28) as u64
-            && used == half(head, 30) as u64
+        Ok(s) => due == 0
+            && s.number == half(head, 28) as u64
+            && s.used == half(head, 30) as u64
             && same,
-        Saved::Refused(n) => refused(n) == due && same,
+        Err(n) => refused(n) == due && same,
     }
 }
 
@@ -109,17 +107,14 @@ fn one_area<R: Read>(from: &mut R, tally: Tally) -> io::Result<Turn> {
     Ok(Turn::last(tally, got))
 }
 
-// Every area of the input. A proved loop has to end, so it counts its turns down from a number that no input uses up.
+// Every area of the input. A proved loop has to end, so it takes as many turns at most as no input has.
 fn compare<R: Read>(from: &mut R) -> io::Result<Tally> {
     let mut t = Tally::none();
-    let mut turns = u64::MAX;
-    while turns > 0 {
+    for _ in 0..u64::MAX {
         let last = one_area(from, t)?;
         t = last.tally;
-        if last.more {
-            turns -= 1;
-        } else {
-            return Ok(t);
+        if !last.more {
+            break;
         }
     }
     Ok(t)

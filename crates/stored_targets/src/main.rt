@@ -110,17 +110,14 @@ fn one_record<R: Read>(from: &mut R, tally: Tally) -> io::Result<Turn> {
     Ok(Turn::last(tally, got))
 }
 
-// Every record of the input. A proved loop has to end, so it counts its turns down from a number that no input uses up.
+// Every record of the input. A proved loop has to end, so it takes as many turns at most as no input has.
 fn compare<R: Read>(from: &mut R) -> io::Result<Tally> {
     let mut t = Tally::none();
-    let mut turns = u64::MAX;
-    while turns > 0 {
+    for _ in 0..u64::MAX {
         let last = one_record(from, t)?;
         t = last.tally;
-        if last.more {
-            turns -= 1;
-        } else {
-            return Ok(t);
+        if !last.more {
+            break;
         }
     }
     Ok(t)

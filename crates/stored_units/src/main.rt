@@ -5,8 +5,6 @@
 
 ghost use Rattle.std.specs.Prelude.{◌≤◌};
 
-use slots::Minutes;
-use slotset::{Number, YesNo};
 use std::io;
 use std::io::{Print, Read};
 use stored::{
@@ -170,18 +168,18 @@ fn refused_figure(number: u8) -> u64 {
 }
 
 // An answer as it is stored: a number, yes or no, a refusal's number alone, days, minutes.
-fn counted(answer: Number) -> usize {
+fn counted(answer: Result<usize, u8>) -> usize {
     match answer {
-        Number::Is(k) => k,
-        Number::Refused(n) => refused(n),
+        Ok(k) => k,
+        Err(n) => refused(n),
     }
 }
 
-fn yes_no(answer: YesNo) -> usize {
+fn yes_no(answer: Result<bool, u8>) -> usize {
     match answer {
-        YesNo::Yes => 1,
-        YesNo::No => 0,
-        YesNo::Refused(n) => refused(n),
+        Ok(true) => 1,
+        Ok(false) => 0,
+        Err(n) => refused(n),
     }
 }
 
@@ -189,30 +187,27 @@ fn number(n: u8) -> usize {
     if n == 0 { 0 } else { refused(n) }
 }
 
-fn days(answer: Number) -> u64 {
+fn days(answer: Result<usize, u8>) -> u64 {
     match answer {
-        Number::Is(k) => k as u64,
-        Number::Refused(n) => refused_figure(n),
+        Ok(k) => k as u64,
+        Err(n) => refused_figure(n),
     }
 }
 
-fn minutes(answer: Minutes) -> u64 {
+fn minutes(answer: Result<u64, u8>) -> u64 {
     match answer {
-        Minutes::Is(m) => m,
-        Minutes::Refused(n) => refused_figure(n),
+        Ok(m) => m,
+        Err(n) => refused_figure(n),
     }
 }
 
 // Whether a unit has the slots that are due, or is refused as it is due.
-fn is_span(answer: UnitSlots, b: &[u8]) -> bool {
+fn is_span(answer: Result<UnitSlots, u8>, b: &[u8]) -> bool {
     let first = half(b, FROM_DUE_AT);
     let past = half(b, TO_DUE_AT);
     match answer {
-        UnitSlots::Span {
-            from: low,
-            to: high,
-        } => low == first && high == past,
-        UnitSlots::Refused(n) => refused(n) == first && refused(n) == past,
+        Ok(span) => span.from == first && span.to == past,
+        Err(n) => refused(n) == first && refused(n) == past,
     }
 }
 
@@ -395,10 +390,8 @@ fn records<R: Read>(from: &mut R) -> io::Result<usize> {
 // Every record of a section.
 fn compare<R: Read>(from: &mut R) -> io::Result<Tally> {
     let mut t = Tally::none();
-    let mut left = records(from)?;
-    while left > 0 {
+    for _ in 0..records(from)? {
         t = one_record(from, t)?;
-        left -= 1;
     }
     Ok(t)
 }

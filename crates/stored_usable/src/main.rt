@@ -39,31 +39,16 @@ const NO_SLOT: usize = 65535;
 const REFUSED: usize = 107;
 
 // Whether a verdict is the one that is due: 0 usable, a broken rule with its slot, or the refusal.
-fn is_due(verdict: Verdict, due: usize, at: usize) -> bool {
+fn is_due(verdict: Result<Verdict, u8>, due: usize, at: usize) -> bool {
     match verdict {
-        Verdict::Usable => {
-            if due == 0 {
-                return at == NO_SLOT;
-            }
-            false
-        }
-        Verdict::Broken { rule, slot } => {
-            if rule as usize == due {
-                return slot == at;
-            }
-            false
-        }
-        Verdict::Refused(n) => {
-            if n == 7 {
-                return due == REFUSED;
-            }
-            false
-        }
+        Ok(Verdict::Usable) => due == 0 && at == NO_SLOT,
+        Ok(Verdict::Broken { rule, slot }) => rule as usize == due && slot == at,
+        Err(n) => n == 7 && due == REFUSED,
     }
 }
 
 // The verdict on the rota of a record.
-fn judged(b: &[u8]) -> Verdict {
+fn judged(b: &[u8]) -> Result<Verdict, u8> {
     let mut starts = [0u32; 8];
     let mut ends = [0u32; 8];
     let mut units = [0u16; 8];
@@ -107,17 +92,14 @@ fn one_record<R: Read>(from: &mut R, tally: Tally) -> io::Result<Turn> {
     Ok(Turn::last(tally, got))
 }
 
-// Every record of the input. A proved loop has to end, so it counts its turns down from a number that no input uses up.
+// Every record of the input. A proved loop has to end, so it takes as many turns at most as no input has.
 fn compare<R: Read>(from: &mut R) -> io::Result<Tally> {
     let mut t = Tally::none();
-    let mut turns = u64::MAX;
-    while turns > 0 {
+    for _ in 0..u64::MAX {
         let last = one_record(from, t)?;
         t = last.tally;
-        if last.more {
-            turns -= 1;
-        } else {
-            return Ok(t);
+        if !last.more {
+            break;
         }
     }
     Ok(t)

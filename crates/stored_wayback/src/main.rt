@@ -51,7 +51,7 @@ struct Figures {
 // A way, and the columns that it was written into.
 #[derive(Clone, Copy)]
 struct Asked {
-    way: Way,
+    way: Result<Way, Refusal>,
     draws: [u16; 16],
     firsts: [u16; 16],
     seconds: [u16; 16],
@@ -148,7 +148,7 @@ fn way_into(
     draws: &mut [u16],
     firsts: &mut [u16],
     seconds: &mut [u16],
-) -> Way {
+) -> Result<Way, Refusal> {
     let starts = times(b, STARTS_AT);
     let ends = times(b, ENDS_AT);
     let able = sets(b, ABLE_AT);
@@ -218,11 +218,11 @@ fn is_refusal(got: Refusal, b: &[u8]) -> bool {
 }
 
 // Whether the way is the one that is due.
-fn is_way(got: Way, b: &[u8]) -> bool {
+fn is_way(got: Result<Way, Refusal>, b: &[u8]) -> bool {
     match got {
-        Way::Draws(n) => is_told(b, 0, n),
-        Way::NoWay(unit) => is_told(b, 1, unit),
-        Way::Refused(refusal) => is_told(b, 2, 0) && is_refusal(refusal, b),
+        Ok(Way::Draws(n)) => is_told(b, 0, n),
+        Ok(Way::NoWay(unit)) => is_told(b, 1, unit),
+        Err(refusal) => is_told(b, 2, 0) && is_refusal(refusal, b),
     }
 }
 
@@ -319,9 +319,8 @@ fn leads(b: &[u8], a: Asked, count: usize) -> bool {
 fn with_play(tally: Tally, b: &[u8], a: Asked) -> Tally {
     let way = a.way;
     match way {
-        Way::Draws(n) => tally.with(leads(b, a, n)),
-        Way::NoWay(_) => tally,
-        Way::Refused(_) => tally,
+        Ok(Way::Draws(n)) => tally.with(leads(b, a, n)),
+        Ok(Way::NoWay(_)) | Err(_) => tally,
     }
 }
 
@@ -349,17 +348,14 @@ fn one_record<R: Read>(from: &mut R, tally: Tally) -> io::Result<Turn> {
     Ok(Turn::last(tally, got))
 }
 
-// Every record of the input. A proved loop has to end, so it counts its turns down from a number that no input uses up.
+// Every record of the input. A proved loop has to end, so it takes as many turns at most as no input has.
 fn compare<R: Read>(from: &mut R) -> io::Result<Tally> {
     let mut t = Tally::none();
-    let mut turns = u64::MAX;
-    while turns > 0 {
+    for _ in 0..u64::MAX {
         let last = one_record(from, t)?;
         t = last.tally;
-        if last.more {
-            turns -= 1;
-        } else {
-            return Ok(t);
+        if !last.more {
+            break;
         }
     }
     Ok(t)

@@ -1,15 +1,14 @@
 -- A person's step and a pass, each by cases; and what every pass keeps, all passes keep. Assumes nothing.
-use Rattle.std.proofs.Common.{◌≡◌, ℕ, zero, suc, Bool, true, false, not, ◌&&◌, List, map, sym, refl, true≢false}
+use Rattle.std.proofs.lemmas.Option.{same_Some}
+use Rattle.std.proofs.Common.{◌≡◌, ℕ, Some, subst, arith, zero, suc, Bool, true, false, not, ◌&&◌, List, map, sym, refl, true≢false}
 use borrow.Author.Tests.{not-true}
 use lib.Ieee.{Float, lt}
 use Rattle.paper.proofs.Logic.{by_cond, both}
 use Rattle.targets.specs.declared.Standing.{Standing}
-use Rattle.targets.specs.declared.Next.{Next}
-use Rattle.targets.specs.declared.Next.TheVariants.{Again, Done, Refused}
 use Rattle.targets.specs.Figures.{zero_f, whole}
 use Rattle.targets.specs.Passes.{within, rounded, unrounded, settled, settle, outside, below_zero, some, share_sum, notional}
 use Rattle.targets.specs.Passes.{Passed, again, done, refused, passed, pass, passes}
-use Rattle.targets.specs.Inside.{round_is}
+use Rattle.targets.specs.Inside.{left_of}
 
 -- ---- one person
 
@@ -100,10 +99,10 @@ standings-keep P f k demand =
     by-passed n sum ls (OfStandings P) (λ a. h) (λ a b. tt) (λ a b c. f n sum ls b h) (λ a b c. f n sum ls b h))
     k
 
--- ---- a round of the code
+-- ---- what the passes leave
 
--- one that is not refused has standings, whether another pass is due or not
-pub by_left : (n : Next) (ls : List Standing) (X : Passed → Type 0) → (n ≡ Refused → ⊥) → X (again ls) → X (done ls) → X (round_is n ls)
-by_left Again ls X f a d = a
-by_left Done ls X f a d = d
-by_left Refused ls X f a d = absurd (f refl)
+-- what holds of the standings, if there are any, holds of those that are left
+pub left-have : (P : List Standing → Type 0) (p : Passed) {ls : List Standing} → Some ls ≡ left_of p → OfStandings P p → P ls
+left-have P (again ms) {ls} e h = subst P (sym (same_Some ls ms e)) h
+left-have P (done ms) {ls} e h = subst P (sym (same_Some ls ms e)) h
+left-have P refused e h = absurd (grind arith)

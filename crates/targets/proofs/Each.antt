@@ -1,11 +1,12 @@
 -- What holds of each standing, a test that some standing passes, and a number of each standing added up. Assumes nothing.
 use Rattle.std.proofs.Common.{◌≡◌, ℕ, zero, suc, ◌+◌, ◌*◌, ◌<◌, ◌≤◌, Bool, true, false, ◌||◌, List, [], ◌∷◌, ◌++◌, map, length, get_or, replicate, sym, refl, ap, ◌∙◌, ap₂, true≢false, suc-le-suc, zero-le, le_of_suc-le-suc, not-suc-le-zero, add-zero, add_assoc, zero-lt-suc, mul-suc, arith}
 use mathlib.Core.List.{foldl}
+use Rattle.std.specs.List.{list_any}
 use Rattle.paper.proofs.Logic.{by-test, neither, or_right, or_left, or-second}
 use Rattle.targets.specs.declared.Standing.{Standing}
 use Rattle.targets.specs.Figures.{up_to, pad}
 use Rattle.targets.specs.Passes.{some}
-use Rattle.targets.specs.Inside.{Each}
+use Rattle.targets.specs.Inside.{Each, SmallTarget, Small}
 
 -- ---- what holds of each standing
 
@@ -56,6 +57,11 @@ module _ (p : Standing → Bool) where
   each_none [] h = refl
   each_none (l ∷ ls) h = ap₂ (λ (a b : Bool). a || b) h.0 (each_none ls h.1)
 
+  -- a chain over them asks the same
+  pub any-some : (ls : List Standing) → list_any p ls ≡ some p ls
+  any-some [] = refl
+  any-some (l ∷ ls) = ap (λ (b : Bool). p l || b) (any-some ls)
+
   -- one does exactly where some place has one
   pub some_at : (ls : List Standing) → some p ls ≡ true → (j : ℕ) × (j < length ls) × (p (get_or ls j pad) ≡ true)
   some_at [] e = absurd (true≢false (sym e))
@@ -94,3 +100,7 @@ fold-sum f g e (l ∷ ls) a =
 pub sum-most : (g : Standing → ℕ) (b : ℕ) (ls : List Standing) → Each (λ (l : Standing). g l ≤ b) ls → sum_standings g ls ≤ b * length ls
 sum-most g b [] h = zero-le
 sum-most g b (l ∷ ls) h = omega (arith, h.0, sum-most g b ls h.1, mul-suc b (length ls))
+
+-- a small target, read at a place
+pub small_at : (ls : List Standing) (i : ℕ) → Small ls → i < length ls → (d : Standing) → (get_or ls i d).target ≤ 1099511627776
+small_at ls i h l d = each_at SmallTarget ls i d h l

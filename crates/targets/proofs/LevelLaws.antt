@@ -1,8 +1,7 @@
 -- The minute-by-minute rule by levels: as many minutes as a level costs lift everybody to it, and what is left over lifts the first of
 -- them. Assumes nothing.
-use Rattle.std.proofs.Common.{◌≡◌, ℕ, zero, suc, ◌+◌, ◌-◌, ◌<◌, ◌≤◌, Bool, true, false, cond, not, ◌&&◌, eqb, ltb, leb, List, [], ◌∷◌, ◌++◌, length, get_or, take, drop, set, sym, refl, ap, ◌∙◌, ap₂, ⊎_elim, append-nil, not-suc-le-zero, add-zero, add-suc, suc-add, zero-add, add-one, arith, drop_of_length-le, take_all, drop-cons, take-suc-set, le-ltb, lt-ltb, eq-eqb, ne_eqb, eqb-true, le-leb, leb-false, leb-true}
+use Rattle.std.proofs.Common.{◌≡◌, ℕ, zero, suc, ◌+◌, ◌-◌, ◌<◌, ◌≤◌, Bool, true, false, cond, not, ◌&&◌, eqb, ltb, leb, List, [], ◌∷◌, sym, refl, ap, ◌∙◌, ap₂, ⊎_elim, not-suc-le-zero, add-zero, add-suc, suc-add, zero-add, arith, le-ltb, lt-ltb, eq-eqb, ne_eqb, eqb-true, le-leb, leb-false, leb-true}
 use borrow.Author.Tests.{not-true}
-use lib.Seq.{append_snoc}
 use Rattle.paper.proofs.Logic.{by-test, by_cond, both, and-true, or_left, or-second, lt-or-ge}
 use Rattle.targets.specs.declared.Standing.{Standing}
 use Rattle.targets.specs.Passes.{some}
@@ -288,32 +287,18 @@ lifts-given m ls h =
 
 -- ---- the loops
 
-pub on_none : (L : ℕ) {r : ℕ} → r ≡ 0 → L ≡ on_level L r
-on_none L e = sym (ap (on_level L) e)
-
-pub on_some : (L r : ℕ) → (r ≡ 0 → ⊥) → L + 1 ≡ on_level L r
-on_some L zero h = absurd (h refl)
-on_some L (suc r) h = omega arith
-
-pub fewer-none : {r : ℕ} → r ≡ 0 → 0 ≡ one_fewer r
-fewer-none e = sym (ap one_fewer e)
-
-pub fewer-some : (r : ℕ) → (r ≡ 0 → ⊥) → r - 1 ≡ one_fewer r
-fewer-some zero h = absurd (h refl)
-fewer-some (suc r) h = omega arith
+pub one-fewer : (r : ℕ) → r - 1 ≡ one_fewer r
+one-fewer zero = refl
+one-fewer (suc r) = omega arith
 
 module _ (L s : ℕ) (l : Standing) where
   pub missing-pinned : l.pinned ≡ true → (s ≡ s + missing_to L l) × (s ≤ s + L)
   unfolding missing_to
   missing-pinned p = rw p (omega arith, omega arith)
 
-  pub missing-less : l.pinned ≡ false → l.target < L → (s + (L - l.target) ≡ s + missing_to L l) × (s + (L - l.target) ≤ s + L)
+  pub missing-free : l.pinned ≡ false → (s + (L - l.target) ≡ s + missing_to L l) × (s + (L - l.target) ≤ s + L)
   unfolding missing_to
-  missing-less p h = rw p (refl, omega arith)
-
-  pub missing-enough : l.pinned ≡ false → L ≤ l.target → (s ≡ s + missing_to L l) × (s ≤ s + L)
-  unfolding missing_to
-  missing-enough p h = rw p (omega arith, omega arith)
+  missing-free p = rw p (refl, omega arith)
 
 module _ (L r : ℕ) (l : Standing) {b : Bool} (e : b ≡ reached L l) where
   pub standing_on : b ≡ true → {t : ℕ} → t ≡ on_level L r → retargeted t l ≡ lifted_standing L r l
@@ -331,34 +316,3 @@ module _ (L r : ℕ) (l : Standing) {b : Bool} (e : b ≡ reached L l) where
   pub left-off : b ≡ false → r ≡ left_after L r l
   unfolding left_after
   left-off f = rw (← e, f)
-
--- the cost is added up standing by standing
-module _ (L a : ℕ) {z : ℕ} (ls : List Standing) (i : ℕ) where
-  pub cost-turn : (d : Standing) {r : ℕ} → a + lift_cost L (drop i ls) ≡ z → r ≡ a + missing_to L (get_or ls i d) → i < length ls
-      → r + lift_cost L (drop (i + 1) ls) ≡ z
-  cost-turn d h e l =
-      let g = ap (lift_cost L) (drop-cons ls i d l) in
-      let k = ap (λ (n : ℕ). lift_cost L (drop n ls)) (add-one i) in
-      omega (arith, h, e, g, k)
-
-  pub cost-over : a + lift_cost L (drop i ls) ≡ z → length ls ≤ i → a ≡ z
-  cost-over h l = omega (arith, h, ap (lift_cost L) (drop_of_length-le ls l))
-
--- the standings are lifted one by one
-module _ (L r : ℕ) (ls out : List Standing) (i : ℕ) {z : List Standing} where
-  pub lift-turn : (d : Standing) {b : Standing} {s : ℕ} → take i out ++ lifted L r (drop i ls) ≡ z → b ≡ lifted_standing L r (get_or ls i d)
-      → s ≡ left_after L r (get_or ls i d) → i < length ls → i < length out → take (i + 1) (set out i b) ++ lifted L s (drop (i + 1) ls) ≡ z
-  lift-turn d h e f l o =
-      rw (add-one, take-suc-set out i, e, f)
-      (append_snoc (take i out) (lifted_standing L r (get_or ls i d)) (lifted L (left_after L r (get_or ls i d)) (drop (suc i) ls))
-      ∙ (rw (drop-cons ls i d) at h))
-
-  pub lift-over : take i out ++ lifted L r (drop i ls) ≡ z → length ls ≤ i → length out ≤ i → out ≡ z
-  lift-over h l o = sym (append-nil out) ∙ (rw (drop_of_length-le ls l, take_all i out o) at h)
-
--- what is left over, from a cost that was worked out
-pub lifts-by : (m L : ℕ) (ls : List Standing) {k : ℕ} {out : List Standing} → lift_cost L ls ≤ m → m < lift_cost (suc L) ls → k
-    ≡ lift_cost L ls
-    → out ≡ lifted L (m - k) ls → Lifts m ls out
-lifts-by m L ls p q e o =
-    record { level = L; paid = p; no-higher = q; is = o ∙ ap (λ (x : ℕ). lifted L (m - x) ls) e }

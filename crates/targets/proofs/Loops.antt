@@ -1,12 +1,10 @@
--- The steps of the loops: folds over standings, a search among them, arrays filled from the front, the passes counted down. Assumes
--- nothing.
-use Rattle.std.proofs.Common.{◌≡◌, ℕ, zero, suc, ◌+◌, ◌-◌, ◌<◌, ◌≤◌, Bool, true, false, ◌||◌, List, [], ◌∷◌, ◌++◌, map, length, get_or, take, drop, set, replicate, sym, refl, ap, ◌∙◌, append-nil, le_of_lt, add-one, arith, length-append, drop_of_length-le, length-take-le, take_all, drop-cons, take-suc, take-suc-set}
-use mathlib.Core.List.{foldl}
+-- The steps of the loops: arrays filled from the front, the passes counted down; and a person's step. Assumes nothing.
+use Rattle.std.proofs.Common.{◌≡◌, ℕ, zero, suc, ◌+◌, ◌-◌, ◌<◌, ◌≤◌, true, false, List, [], ◌∷◌, ◌++◌, length, get_or, take, drop, set, replicate, sym, refl, ◌∙◌, le_of_lt, add-one, arith, length-append, length-take-le, drop-cons, take-suc}
 use lib.Ieee.{Float, lt}
 use lib.Seq.{append_snoc, set_at}
 use Rattle.targets.specs.declared.Standing.{Standing}
 use Rattle.targets.specs.Figures.{zero_f, up_to}
-use Rattle.targets.specs.Passes.{settled, rounded, some, Passed, pass, passes}
+use Rattle.targets.specs.Passes.{settled, rounded, Passed, pass, passes}
 
 -- two constructors are never equal: `cc` turns such an equation into this one
 pub differ : {A : Type 0} → ◌≡◌ {A = ℕ} 0 1 → A
@@ -14,33 +12,6 @@ differ z = absurd (no z)
   where
     no : ◌≡◌ {A = ℕ} 0 1 → ⊥
     no z = omega arith
-
--- ---- a fold over standings
-
-module _ {A : Type 0} (f : A → Standing → A) {a z : A} (ls : List Standing) (i : ℕ) where
-  -- one turn: the standing at i goes in, and what is left starts after it
-  pub turn : (d : Standing) {r : A} → foldl f a (drop i ls) ≡ z → r ≡ f a (get_or ls i d) → i < length ls
-      → foldl f r (drop (i + 1) ls) ≡ z
-  turn d h e l = rw (add-one, e) (rw (drop-cons ls i d) at h)
-
-  -- the end
-  pub over : foldl f a (drop i ls) ≡ z → length ls ≤ i → a ≡ z
-  over h l = rw (drop_of_length-le ls l) at h
-
--- ---- a search for a standing that passes a test
-
-module _ (p : Standing → Bool) {z : Bool} (ls : List Standing) (i : ℕ) where
-  pub found : (d : Standing) {b : Bool} → some p (drop i ls) ≡ z → b ≡ p (get_or ls i d) → b ≡ true → i < length ls → true ≡ z
-  found d h e t l =
-      ap (λ (x : Bool). x || some p (drop (suc i) ls)) (sym t ∙ e) ∙ (rw (drop-cons ls i d) at h)
-
-  pub missed : (d : Standing) {b : Bool} → some p (drop i ls) ≡ z → b ≡ p (get_or ls i d) → b ≡ false → i < length ls
-      → some p (drop (i + 1) ls) ≡ z
-  missed d h e f l =
-      rw add-one (ap (λ (x : Bool). x || some p (drop (suc i) ls)) (sym f ∙ e) ∙ (rw (drop-cons ls i d) at h))
-
-  pub nowhere : some p (drop i ls) ≡ z → length ls ≤ i → false ≡ z
-  nowhere h l = rw (drop_of_length-le ls l) at h
 
 -- ---- one person's step, by the tests that lead to it; y is the unrounded target as the code has it
 
@@ -51,21 +22,9 @@ module _ (l : Standing) {x y : Float} (e : y ≡ x) where
   at_pin p z = rw (p, ← e, z)
 
   pub at-kept : l.pinned ≡ false → lt y zero_f ≡ false → {t : ℕ} → t ≡ rounded y
-      → record { person = l.person; raw = l.raw; target = t; pinned = false } ≡ settled x l
+      → record { person = l.person; raw = l.raw; target = t; pinned = l.pinned } ≡ settled x l
   unfolding settled
   at-kept p z h = rw (p, ← e, z, h)
-
--- ---- a loop that writes g of each standing into another array
-
-module _ {A : Type 0} {B : Type 0} (g : A → B) (ls : List A) (out : List B) (i : ℕ) {z : List B} where
-  pub copied : (d : A) {b : B} → take i out ++ map g (drop i ls) ≡ z → b ≡ g (get_or ls i d) → i < length ls → i < length out
-      → take (i + 1) (set out i b) ++ map g (drop (i + 1) ls) ≡ z
-  copied d h e l o =
-      rw (add-one, take-suc-set out i, e)
-      (append_snoc (take i out) (g (get_or ls i d)) (map g (drop (suc i) ls)) ∙ (rw (drop-cons ls i d) at h))
-
-  pub filled : take i out ++ map g (drop i ls) ≡ z → length ls ≤ i → length out ≤ i → out ≡ z
-  filled h l o = sym (append-nil out) ∙ (rw (drop_of_length-le ls l, take_all i out o) at h)
 
 -- ---- the passes, counted down
 

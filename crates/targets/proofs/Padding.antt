@@ -1,5 +1,6 @@
 -- Lines that take no part change nothing: the targets of the people are those of the people alone. Assumes nothing.
-use Rattle.std.proofs.Common.{◌≡◌, ℕ, zero, suc, ◌+◌, ◌-◌, ◌<◌, Bool, true, false, cond, not, ◌&&◌, ◌||◌, eqb, leb, List, [], ◌∷◌, ◌++◌, map, length, get_or, take, replicate, ℤ, pos, ◌+ℤ◌, ◌-ℤ◌, sym, refl, ap, ◌∙◌, ap₂, true≢false, add-zero, add-one, arith, length-set, take_at, drop_at}
+use Rattle.std.proofs.lemmas.Option.{same_Some}
+use Rattle.std.proofs.Common.{◌≡◌, Some, None, ℕ, zero, suc, ◌+◌, ◌-◌, ◌<◌, Bool, true, false, cond, not, ◌&&◌, ◌||◌, eqb, leb, List, [], ◌∷◌, ◌++◌, map, length, get_or, take, replicate, ℤ, pos, ◌+ℤ◌, ◌-ℤ◌, sym, refl, ap, ◌∙◌, ap₂, true≢false, add-zero, add-one, arith, length-set, take_at, drop_at}
 use mathlib.Core.List.{foldl, foldl-append}
 use lib.Ieee.{Float, lt}
 use lib.ListN.{length-map, get_or-append}
@@ -7,14 +8,13 @@ use lib.Seq.{set-append_left}
 use Rattle.paper.proofs.Logic.{by-test, by_cond}
 use Rattle.targets.specs.declared.Standing.{Standing}
 use Rattle.targets.specs.declared.Best.{Best}
-use Rattle.targets.specs.declared.Answer.{Answer}
 use Rattle.targets.specs.Figures.{zero_f, whole, pad}
 use Rattle.targets.specs.Passes.{settled, settle, outside, below_zero, some, with_share, share_sum, with_prior, notional}
 use Rattle.targets.specs.Passes.{Passed, again, done, refused, passed, pass, passes, passes_leave, standings_left, guarded}
 use Rattle.targets.specs.Remainder.{with_target, total_of, better, best, taker_of, target_of, adjusted}
 use Rattle.targets.specs.SecondEdition.{unpinned, unpin, taking_part, one_more, one_less, has_less, has_more, is_smallest, is_largest, on_first}
 use Rattle.targets.specs.SecondEdition.{give_minute, take_minute, times, handed_out, spread, shared_out}
-use Rattle.targets.specs.Inside.{AnswerOf, taking_first, shared_first}
+use Rattle.targets.specs.Inside.{targets_left, taking_first, shared_first}
 use Rattle.targets.proofs.Cases.{OfStandings, standings-keep}
 use Rattle.targets.proofs.Taker.{taker-here}
 use Rattle.targets.proofs.LevelLaws.{first-here, first-later}
@@ -249,23 +249,43 @@ left-padded m (again ls) e = refl
 left-padded m (done ls) e = refl
 left-padded m refused e = absurd (true≢false (sym e))
 
-module _ (e n m d : ℕ) (ls : List Standing) (N : length ls ≡ n) (P : 0 < n) (a : Answer)
-    (A : AnswerOf e n d (passes (n + 1) d (again (ls ++ replicate m pad))) a) where
-  same : passes (n + 1) d (again (ls ++ replicate m pad)) ≡ pad_p m (passes_leave d ls)
+-- no targets are left, or these
+none-left : (e n d : ℕ) (p : Passed) → None ≡ targets_left e n d p → guarded p ≡ false
+none-left e n d (again ls) q = absurd (grind arith)
+none-left e n d (done ls) q = absurd (grind arith)
+none-left e n d refused q = refl
+
+some-left : (e n d : ℕ) (p : Passed) {ts : List ℤ} → Some ts ≡ targets_left e n d p
+    → (guarded p ≡ true) × (ts ≡ shared_first e n d (standings_left p))
+some-left e n d (again ls) q = (refl, same_Some _ _ q)
+some-left e n d (done ls) q = (refl, same_Some _ _ q)
+some-left e n d refused q = absurd (grind arith)
+
+module _ (e n m d : ℕ) (ls : List Standing) (N : length ls ≡ n) where
+  abbrev after : Passed
+  after = passes (n + 1) d (again (ls ++ replicate m pad))
+
+  same : after ≡ pad_p m (passes_leave d ls)
   same =
       passes-padded (n + 1) m d (again ls)
       ∙ ap (λ (k : ℕ). pad_p m (passes k d (again ls))) (add-one n ∙ ap suc (sym N))
 
-  pub answer-guarded : not a.refused ≡ guarded (passes_leave d ls)
-  answer-guarded = A.kept ∙ ap guarded same ∙ guarded-padded m (passes_leave d ls)
+  same-guard : guarded after ≡ guarded (passes_leave d ls)
+  same-guard = ap guarded same ∙ guarded-padded m (passes_leave d ls)
 
-  pub answer-targets : a.refused ≡ false → take n a.targets ≡ shared_out e d (standings_left (passes_leave d ls))
-  answer-targets r =
-      let g : guarded (passes_leave d ls) ≡ true = sym answer-guarded ∙ ap not r in
-      let left = standings_left (passes_leave d ls) in
-      let L = left-count n d ls N g in
-      ap (take n)
-      (A.given r ∙ ap (λ (p : Passed). shared_first e n d (standings_left p)) same ∙ ap (shared_first e n d)
-      (left-padded m (passes_leave d ls) g)
-      ∙ shared-padded e n m d left L (omega (arith, L)))
-      ∙ take_at (shared_out e d left) (replicate m (pos 0)) n (shared-length e d left ∙ L)
+  pub none-unguarded : None ≡ targets_left e n d after → guarded (passes_leave d ls) ≡ false
+  none-unguarded A = sym same-guard ∙ none-left e n d after A
+
+  module _ {ts : List ℤ} (A : Some ts ≡ targets_left e n d after) where
+    pub some-guarded : guarded (passes_leave d ls) ≡ true
+    some-guarded = sym same-guard ∙ (some-left e n d after A).0
+
+    pub some-targets : 0 < n → take n ts ≡ shared_out e d (standings_left (passes_leave d ls))
+    some-targets P =
+        let left = standings_left (passes_leave d ls) in
+        let L = left-count n d ls N some-guarded in
+        ap (take n)
+        ((some-left e n d after A).1 ∙ ap (λ (p : Passed). shared_first e n d (standings_left p)) same ∙ ap (shared_first e n d)
+        (left-padded m (passes_leave d ls) some-guarded)
+        ∙ shared-padded e n m d left L (omega (arith, L)))
+        ∙ take_at (shared_out e d left) (replicate m (pos 0)) n (shared-length e d left ∙ L)

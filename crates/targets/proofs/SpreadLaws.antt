@@ -1,17 +1,16 @@
 -- The targets of edition 2: there is a level for every number of minutes, and after them the targets add up to demand. Assumes nothing.
-use Rattle.std.proofs.Common.{◌≡◌, ℕ, zero, suc, ◌+◌, ◌-◌, ◌*◌, ◌<◌, ◌≤◌, Bool, true, false, cond, ◌&&◌, ◌||◌, eqb, ltb, leb, ◌⊎◌, List, [], ◌∷◌, ◌++◌, map, length, take, drop, ℤ, pos, sym, refl, ap, ◌∙◌, subst, ap₂, inl, inr, ⊎_elim, true≢false, append-nil, zero-le, le_of_eq, le_refl, mul-suc, arith, drop_of_length-le, take_all, ltb-false, ltb-true, eq-eqb, ne_eqb, le-leb, leb-false, leb-true}
+use Rattle.std.proofs.Common.{◌≡◌, ℕ, zero, suc, ◌+◌, ◌-◌, ◌*◌, ◌<◌, ◌≤◌, Bool, true, false, cond, ◌&&◌, ◌||◌, eqb, ltb, leb, ◌⊎◌, List, [], ◌∷◌, ◌++◌, map, length, take, drop, ℤ, pos, sym, refl, ap, ◌∙◌, subst, ap₂, inl, inr, ⊎_elim, true≢false, append-nil, zero-le, le_of_eq, le_refl, mul-suc, arith, drop_of_length-le, take_all, ltb-false, ltb-true, le-leb, leb-false, leb-true}
 use mathlib.Core.List.{foldl}
 use borrow.Author.Tests.{lt-leb, not-true}
 use lib.ListN.{length-map}
 use Rattle.paper.proofs.Logic.{by-test, by_cond, both, or_right, lt-or-ge}
 use Rattle.targets.specs.declared.Standing.{Standing}
 use Rattle.targets.specs.Passes.{some}
-use Rattle.targets.specs.Remainder.{total_of, target_of, adjusted, sumℤ}
+use Rattle.targets.specs.Remainder.{total_of, adjusted, sumℤ}
 use Rattle.targets.specs.SecondEdition.{unpinned, unpin, taking_part, retargeted, give_minute, take_minute, times, handed_out}
 use Rattle.targets.specs.SecondEdition.{spread, shared_out}
 use Rattle.targets.specs.Levels.{reached, missing_to, lift_cost, left_after, lifted, Lifts}
 use Rattle.targets.specs.Inside.{Each, SmallTarget, Small, PinnedZero, highest, mirrored, lower, smallest_of, taking_first}
-use Rattle.targets.specs.Inside.{shared_first}
 use Rattle.targets.proofs.Each.{each-then}
 use Rattle.targets.proofs.Sums.{added_up, total-is, as-signed, adds-up}
 use Rattle.targets.proofs.LevelLaws.{reached-says, reached_by, lifted-on, lifted-off, count-on, count-off, cost-next, cost-none}
@@ -299,13 +298,6 @@ level-start m ls {low} e s u =
     let b = ap (λ (x : ℕ). lift_cost x ls) (let q : low + m + 1 ≡ smallest_of ls + suc m = omega (arith, e) in q) in
     (omega (arith, a, smallest-free ls), omega (arith, b, smallest-rises m ls s u))
 
-pub first_some : (n : ℕ) (ls : List Standing) {b : Bool} → b ≡ some unpinned ls → b ≡ true → ls ≡ taking_first n ls
-first_some n ls e t = rw (← e, t)
-
-pub first-none : (n : ℕ) (ls : List Standing) {b : Bool} → b ≡ some unpinned ls → b ≡ false → {xs : List Standing}
-    → xs ≡ take n (map unpin ls) ++ drop n ls → xs ≡ taking_first n ls
-first-none n ls e f h = rw (← e, f) h
-
 pub handed-given : (d : ℕ) (ls : List Standing) {t : ℕ} {out : List Standing} → t ≡ total_of ls → t ≤ d → Lifts (d - t) ls out → out ≡
     handed_out d ls
 unfolding handed_out
@@ -348,10 +340,3 @@ module _ (n : ℕ) (ls : List Standing) (h : 0 < n) (k : n ≤ length ls) (s : S
       subst Small (sym a)
       (each-then (λ (x : Standing). x.target ≤ d) SmallTarget (λ x q. omega (arith, q, l)) (handed_out d part)
       (handed-most d part r.2 r.0 r.1))
-
-pub shared_second : (e n d : ℕ) (ls : List Standing) → e ≡ 1 → {zs : List ℤ} → zs ≡ map target_of (handed_out d (taking_first n ls))
-    → zs ≡ shared_first e n d ls
-shared_second e n d ls q h = rw (eq-eqb e 1 q) h
-
-pub shared-first : (e n d : ℕ) (ls : List Standing) → (e ≡ 1 → ⊥) → {zs : List ℤ} → zs ≡ adjusted d ls → zs ≡ shared_first e n d ls
-shared-first e n d ls q h = rw (ne_eqb e 1 q) h

@@ -1,28 +1,33 @@
 -- What contracts of private functions cite, and no public one: what the code's own values stand for, what the work asks. Assumes nothing.
-use Rattle.std.specs.Prelude.{◌≡◌, ℕ, ◌-◌, ◌*◌, ◌<◌, ◌≤◌, true, false, cond, not, ◌&&◌, List, [], ◌∷◌, ◌++◌, map, length, take, drop, ℤ, ◌==◌, nat_le, nat_lt}
+use Rattle.std.specs.Prelude.{◌≡◌, ℕ, Option, None, Some, ◌-◌, ◌*◌, ◌<◌, ◌≤◌, true, cond, not, ◌&&◌, List, [], ◌∷◌, ◌++◌, map, length, take, drop, ℤ, ◌==◌, nat_le, nat_lt}
 use mathlib.Core.List.{foldl}
 use Rattle.paper.specs.Limits.{Test, test}
 use Rattle.slots.specs.Lent.{slots_ok}
 use Rattle.targets.specs.declared.Standing.{Standing}
-use Rattle.targets.specs.declared.Next.{Next}
-use Rattle.targets.specs.declared.Next.TheVariants.{Again, Done, Refused}
-use Rattle.targets.specs.declared.Round.{Round}
-use Rattle.targets.specs.declared.Answer.{Answer}
+use Rattle.targets.specs.declared.passes.Round.{Round}
+use Rattle.targets.specs.declared.passes.Round.TheVariants.{Again, Done}
 use Rattle.targets.specs.Figures.{all_figures_ok}
-use Rattle.targets.specs.Passes.{some, Passed, again, done, refused, standings_left, guarded}
+use Rattle.targets.specs.Passes.{some, Passed, again, done, refused}
 use Rattle.targets.specs.Remainder.{target_of, adjusted}
 use Rattle.targets.specs.SecondEdition.{unpinned, unpin, retargeted, handed_out}
 use Rattle.targets.specs.Outcome.{Given, room_row}
 
 -- ---- the code's values
 
-abbrev pub round_is : Next → List Standing → Passed
-round_is Again ls = again ls
-round_is Done ls = done ls
-round_is Refused ls = refused
+-- a round, or none where the pass is refused
+abbrev pub round_is : Round → Passed
+round_is (Again ls) = again ls
+round_is (Done ls) = done ls
 
-abbrev pub passed_of : Round → Passed
-passed_of r = round_is r.next r.standings
+abbrev pub passed_of : Option Round → Passed
+passed_of None = refused
+passed_of (Some r) = round_is r
+
+-- the standings that the passes leave, or none where they are refused
+abbrev pub left_of : Passed → Option (List Standing)
+left_of (again ls) = Some ls
+left_of (done ls) = Some ls
+left_of refused = None
 
 -- standings of which only the first are people's: who takes part in edition 2, and the targets by edition
 abbrev pub taking_first : ℕ → List Standing → List Standing
@@ -33,9 +38,10 @@ shared_first edition people demand ls =
     cond (edition == 1) (map target_of (handed_out demand (taking_first people ls))) (adjusted demand ls)
 
 -- the targets of what the passes leave, or none where they are refused
-pub record AnswerOf (edition people demand : ℕ) (p : Passed) (a : Answer) : Type 0 where
-  pub kept : not a.refused ≡ guarded p
-  pub given : a.refused ≡ false → a.targets ≡ shared_first edition people demand (standings_left p)
+abbrev pub targets_left : ℕ → ℕ → ℕ → Passed → Option (List ℤ)
+targets_left edition people demand (again ls) = Some (shared_first edition people demand ls)
+targets_left edition people demand (done ls) = Some (shared_first edition people demand ls)
+targets_left edition people demand refused = None
 
 -- what holds of each standing
 abbrev pub Each : (Standing → Type 0) → List Standing → Type 0

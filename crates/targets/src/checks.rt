@@ -13,13 +13,7 @@ use paper::Refusal;
 fn figures_ok(p: Person) -> bool
     ensures { result ≡ figures_ok p }
 {
-    if 0.0 <= p.capacity {
-        if p.capacity <= 1000.0 {
-            return p.prior <= paper::LAST_MINUTE;
-        }
-        return false;
-    }
-    false
+    0.0 <= p.capacity && p.capacity <= 1000.0 && p.prior <= paper::LAST_MINUTE
 }
 
 // Whether everybody's do; a column of capacities that is too short doesn't.
@@ -29,15 +23,12 @@ fn all_figures_ok(people: usize, capacities: &[f64], priors: &[u32]) -> bool
     if capacities.len() < people {
         return false;
     }
-    let mut i = 0;
-    while i < people {
+    for i in 0..people {
         let p = Person {
             capacity: capacities[i],
             prior: slots::entry_of(priors, i),
         };
-        if figures_ok(p) {
-            i += 1;
-        } else {
+        if !figures_ok(p) {
             return false;
         }
     }

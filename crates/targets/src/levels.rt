@@ -15,10 +15,7 @@ fn with_missing(sum: u64, l: Standing, level: u64) -> u64
     if l.pinned {
         return sum;
     }
-    if l.target < level {
-        return sum + (level - l.target);
-    }
-    sum
+    sum + level.saturating_sub(l.target)
 }
 
 // The minutes that lift everybody.
@@ -27,11 +24,8 @@ fn lift_cost(standings: [Standing; 32], level: u64) -> u64
     ensures { result ≡ lift_cost level standings }
 {
     let mut sum: u64 = 0;
-    let mut i = 0;
-    while i < paper::PEOPLE_MOST {
-        let l = standings[i];
+    for l in standings {
         sum = with_missing(sum, l, level);
-        i += 1;
     }
     sum
 }
@@ -42,10 +36,7 @@ fn lower_of(low: u64, l: Standing) -> u64
     if l.pinned {
         return low;
     }
-    if l.target < low {
-        return l.target;
-    }
-    low
+    low.min(l.target)
 }
 
 // The smallest unpinned target.
@@ -53,11 +44,8 @@ fn smallest_of(standings: [Standing; 32]) -> u64
     ensures { (result ≡ smallest_of standings) × (result ≤ 1099511627776) }
 {
     let mut low: u64 = 1099511627776;
-    let mut i = 0;
-    while i < paper::PEOPLE_MOST {
-        let l = standings[i];
+    for l in standings {
         low = lower_of(low, l);
-        i += 1;
     }
     low
 }
@@ -69,6 +57,7 @@ fn level_of(standings: [Standing; 32], minutes: u64) -> u64
 {
     let mut low = smallest_of(standings);
     let mut high = low + minutes + 1;
+    // A while: a search by halves walks no range.
     while low + 1 < high {
         let middle = low + (high - low) / 2;
         if lift_cost(standings, middle) <= minutes {
@@ -84,10 +73,7 @@ fn level_of(standings: [Standing; 32], minutes: u64) -> u64
 fn is_reached(l: Standing, level: u64) -> bool
     ensures { result ≡ reached level l }
 {
-    if l.pinned {
-        return false;
-    }
-    l.target <= level
+    !l.pinned && l.target <= level
 }
 
 // The level, or one above it while minutes are left over.
@@ -106,14 +92,8 @@ fn lifted_standing(l: Standing, level: u64, left: u64) -> Standing
     ensures { result ≡ lifted_standing level left l }
 {
     if is_reached(l, level) {
-        let person = l.person;
         let target = on_level(level, left);
-        return Standing {
-            person,
-            raw: l.raw,
-            target,
-            pinned: l.pinned,
-        };
+        return Standing { target, ..l };
     }
     l
 }
@@ -122,10 +102,7 @@ fn left_after(l: Standing, level: u64, left: u64) -> u64
     ensures { result ≡ left_after level left l }
 {
     if is_reached(l, level) {
-        if left == 0 {
-            return 0;
-        }
-        return left - 1;
+        return left.saturating_sub(1);
     }
     left
 }
@@ -137,13 +114,9 @@ fn lifted_standings(standings: [Standing; 32], level: u64, left: u64) -> [Standi
 {
     let mut out = standings;
     let mut rest = left;
-    let mut i = 0;
-    while i < paper::PEOPLE_MOST {
-        let l = standings[i];
-        let m = lifted_standing(l, level, rest);
-        rest = left_after(l, level, rest);
-        out[i] = m;
-        i += 1;
+    for (i, l) in standings.iter().enumerate() {
+        out[i] = lifted_standing(*l, level, rest);
+        rest = left_after(*l, level, rest);
     }
     out
 }

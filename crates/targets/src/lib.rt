@@ -14,7 +14,7 @@ mod standings;
 ghost use Rattle.std.specs.Prelude.{◌≡◌, ◌+◌, ◌<◌, ◌≤◌, ◌++◌, length, take, drop};
 ghost use Rattle.targets.specs.Passes.{passes, again};
 ghost use Rattle.targets.specs.Outcome.{given, Meets};
-ghost use Rattle.targets.specs.Inside.{AnswerOf, Small, PinnedZero};
+ghost use Rattle.targets.specs.Inside.{targets_left, Small, PinnedZero};
 
 use slots::demand_of;
 
@@ -34,21 +34,6 @@ pub struct Standing {
     pub pinned: bool,
 }
 
-// How the passes go on.
-#[derive(Clone, Copy)]
-pub enum Next {
-    Again,
-    Done,
-    Refused,
-}
-
-// The standings after a pass.
-#[derive(Clone, Copy)]
-pub struct Round {
-    pub standings: [Standing; 32],
-    pub next: Next,
-}
-
 // The largest unpinned target so far: where it stands, what it is, and the place of the standing that comes now.
 #[derive(Clone, Copy)]
 pub struct Best {
@@ -57,37 +42,18 @@ pub struct Best {
     pub next: usize,
 }
 
-// The targets, or refusal 8.
-#[derive(Clone, Copy)]
-pub struct Answer {
-    pub refused: bool,
-    pub targets: [i64; 32],
-}
-
-// The targets of the standings: what the passes leave, and then the remainder.
-fn targets_of(people: usize, edition: u8, standings: [Standing; 32], demand: u32) -> Answer
+// The targets of the standings: what the passes leave, and then the remainder. Nothing where refusal 8 is given.
+fn targets_of(
+    people: usize,
+    edition: u8,
+    standings: [Standing; 32],
+    demand: u32,
+) -> Option<[i64; 32]>
     requires { (0 < people) × (people ≤ 32) × Small standings × PinnedZero standings }
-    ensures { AnswerOf edition people demand (passes (people + 1) demand (again standings)) result }
+    ensures { result ≡ targets_left edition people demand (passes (people + 1) demand (again standings)) }
 {
-    let r = passes::passes_of(people, standings, demand);
-    let k = r.next;
-    match k {
-        Next::Refused => {
-            let none = [0i64; 32];
-            Answer {
-                refused: true,
-                targets: none,
-            }
-        }
-        Next::Again | Next::Done => {
-            let left = r.standings;
-            let t = spread::shared_out(people, edition, left, demand);
-            Answer {
-                refused: false,
-                targets: t,
-            }
-        }
-    }
+    let left = passes::passes_of(people, standings, demand)?;
+    Some(spread::shared_out(people, edition, left, demand))
 }
 
 // The first `people` of the targets go to the front of out, and the rest of out stays.
@@ -95,12 +61,7 @@ fn put_targets(people: usize, targets: [i64; 32], out: &mut [i64])
     requires { (people ≤ 32) × (people ≤ length out.old) }
     ensures { out.new ≡ take people targets ++ drop people out.old }
 {
-    let mut i = 0;
-    while i < people {
-        let t = targets[i];
-        out[i] = t;
-        i += 1;
-    }
+    out[..people].copy_from_slice(&targets[..people]);
 }
 
 // Each person's target, in out, and 0; or the number of the refusal (1, 2, 6, 7, 8 or 9), with out as it was.
@@ -133,18 +94,16 @@ pub fn compute_targets(
         out.len(),
     )
     .number;
-    if n == 0 {
-        let demand = demand_of(slots, starts, ends);
-        let standings = standings::standings_of(
-            people, slots, fairness, starts, ends, avail, capacities, priors, demand,
-        );
-        let a = targets_of(people, edition, standings, demand);
-        if a.refused {
-            return 8;
-        }
-        let t = a.targets;
-        put_targets(people, t, out);
-        return 0;
+    if n != 0 {
+        return n;
     }
-    n
+    let demand = demand_of(slots, starts, ends);
+    let standings = standings::standings_of(
+        people, slots, fairness, starts, ends, avail, capacities, priors, demand,
+    );
+    let Some(targets) = targets_of(people, edition, standings, demand) else {
+        return 8;
+    };
+    put_targets(people, targets, out);
+    0
 }

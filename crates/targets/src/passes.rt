@@ -2,9 +2,16 @@
 ghost use Rattle.std.specs.Prelude.{◌≡◌, ◌+◌, ◌≤◌, false, map};
 ghost use Rattle.targets.specs.Passes.{unrounded, outside, below_zero, settle, with_share, share_sum, with_prior, notional};
 ghost use Rattle.targets.specs.Passes.{some, passed, pass, passes, again};
-ghost use Rattle.targets.specs.Inside.{passed_of};
+ghost use Rattle.targets.specs.Inside.{passed_of, left_of};
 
-use crate::{Next, Round, Standing, rounding};
+use crate::{Standing, rounding};
+
+// The standings after a pass: another is due over them, or they are what the passes leave.
+#[derive(Clone, Copy)]
+enum Round {
+    Again([Standing; 32]),
+    Done([Standing; 32]),
+}
 
 // N * (raw / sum) - prior.
 fn unrounded_of(l: Standing, n: f64, sum: f64) -> f64
@@ -27,14 +34,7 @@ fn with_share(sum: f64, l: Standing) -> f64
 fn share_sum(standings: [Standing; 32]) -> f64
     ensures { result ≡ share_sum standings }
 {
-    let mut sum = 0.0;
-    let mut i = 0;
-    while i < paper::PEOPLE_MOST {
-        let l = standings[i];
-        sum = with_share(sum, l);
-        i += 1;
-    }
-    sum
+    standings.iter().fold(0.0, |sum, l| with_share(sum, *l))
 }
 
 // N with the prior minutes of a person who is not pinned.
@@ -53,11 +53,8 @@ fn notional_of(demand: u32, standings: [Standing; 32]) -> u64
     ensures { (result ≡ notional demand standings) × (result ≤ 141733920735) }
 {
     let mut n = demand as u64;
-    let mut i = 0;
-    while i < paper::PEOPLE_MOST {
-        let l = standings[i];
+    for l in standings {
         n = with_prior(n, l);
-        i += 1;
     }
     n
 }
@@ -66,51 +63,26 @@ fn notional_of(demand: u32, standings: [Standing; 32]) -> u64
 fn is_outside(l: Standing, n: f64, sum: f64) -> bool
     ensures { result ≡ outside n sum l }
 {
-    if l.pinned {
-        return false;
-    }
-    if rounding::is_within(unrounded_of(l, n, sum)) {
-        return false;
-    }
-    true
+    !l.pinned && !rounding::is_within(unrounded_of(l, n, sum))
 }
 
 fn some_outside(standings: [Standing; 32], n: f64, sum: f64) -> bool
     ensures { result ≡ some (outside n sum) standings }
 {
-    let mut i = 0;
-    while i < paper::PEOPLE_MOST {
-        let l = standings[i];
-        if is_outside(l, n, sum) {
-            return true;
-        }
-        i += 1;
-    }
-    false
+    standings.iter().any(|l| is_outside(*l, n, sum))
 }
 
 // Whether an unpinned person's unrounded target is below 0.
 fn is_below_zero(l: Standing, n: f64, sum: f64) -> bool
     ensures { result ≡ below_zero n sum l }
 {
-    if l.pinned {
-        return false;
-    }
-    unrounded_of(l, n, sum) < 0.0
+    !l.pinned && unrounded_of(l, n, sum) < 0.0
 }
 
 fn some_below_zero(standings: [Standing; 32], n: f64, sum: f64) -> bool
     ensures { result ≡ some (below_zero n sum) standings }
 {
-    let mut i = 0;
-    while i < paper::PEOPLE_MOST {
-        let l = standings[i];
-        if is_below_zero(l, n, sum) {
-            return true;
-        }
-        i += 1;
-    }
-    false
+    standings.iter().any(|l| is_below_zero(*l, n, sum))
 }
 
 // One person after a pass: pinned at 0 where the unrounded target is below 0, else rounded.
@@ -121,23 +93,16 @@ fn settled_standing(l: Standing, n: f64, sum: f64) -> Standing
     if l.pinned {
         return l;
     }
-    let person = l.person;
     let x = unrounded_of(l, n, sum);
     if x < 0.0 {
         return Standing {
-            person,
-            raw: l.raw,
             target: 0,
             pinned: true,
+            ..l
         };
     }
     let target = rounding::nearest(x);
-    Standing {
-        person,
-        raw: l.raw,
-        target,
-        pinned: false,
-    }
+    Standing { target, ..l }
 }
 
 fn settled_standings(standings: [Standing; 32], n: f64, sum: f64) -> [Standing; 32]
@@ -145,75 +110,53 @@ fn settled_standings(standings: [Standing; 32], n: f64, sum: f64) -> [Standing; 
     ensures { result ≡ map (settle n sum) standings }
 {
     let mut out = standings;
-    let mut i = 0;
-    while i < paper::PEOPLE_MOST {
-        let l = standings[i];
-        let m = settled_standing(l, n, sum);
-        out[i] = m;
-        i += 1;
+    for (i, l) in standings.iter().enumerate() {
+        out[i] = settled_standing(*l, n, sum);
     }
     out
 }
 
-// A pass with this N and this sum.
-fn passed_over(standings: [Standing; 32], n: f64, sum: f64) -> Round
+// A pass with this N and this sum, or nothing where refusal 8 is given.
+fn passed_over(standings: [Standing; 32], n: f64, sum: f64) -> Option<Round>
     ensures { passed_of result ≡ passed n sum standings }
 {
     if sum > 0.0 {
         if some_outside(standings, n, sum) {
-            return Round {
-                standings,
-                next: Next::Refused,
-            };
+            return None;
         }
         let out = settled_standings(standings, n, sum);
         if some_below_zero(standings, n, sum) {
-            return Round {
-                standings: out,
-                next: Next::Again,
-            };
+            return Some(Round::Again(out));
         }
-        return Round {
-            standings: out,
-            next: Next::Done,
-        };
+        return Some(Round::Done(out));
     }
-    Round {
-        standings,
-        next: Next::Done,
-    }
+    Some(Round::Done(standings))
 }
 
-// A pass, if another is due.
-fn pass_of(r: Round, demand: u32) -> Round
-    ensures { passed_of result ≡ pass demand (passed_of r) }
+// A pass over these standings.
+fn pass_of(standings: [Standing; 32], demand: u32) -> Option<Round>
+    ensures { passed_of result ≡ pass demand (again standings) }
 {
-    let k = r.next;
-    match k {
-        Next::Again => {
-            let standings = r.standings;
-            let n = std::num::nearest_u64_to_f64(notional_of(demand, standings));
-            let sum = share_sum(standings);
-            passed_over(standings, n, sum)
-        }
-        Next::Done => r,
-        Next::Refused => r,
-    }
+    let n = std::num::nearest_u64_to_f64(notional_of(demand, standings));
+    let sum = share_sum(standings);
+    passed_over(standings, n, sum)
 }
 
-// What the passes leave: at most people + 1 of them.
-pub(crate) fn passes_of(people: usize, standings: [Standing; 32], demand: u32) -> Round
+// What the passes leave: at most people + 1 of them. Nothing where one is refused.
+pub(crate) fn passes_of(
+    people: usize,
+    standings: [Standing; 32],
+    demand: u32,
+) -> Option<[Standing; 32]>
     requires { people ≤ 32 }
-    ensures { passed_of result ≡ passes (people + 1) demand (again standings) }
+    ensures { result ≡ left_of (passes (people + 1) demand (again standings)) }
 {
-    let mut r = Round {
-        standings,
-        next: Next::Again,
-    };
-    let mut k = 0;
-    while k <= people {
-        r = pass_of(r, demand);
-        k += 1;
+    let mut left = standings;
+    for _k in 0..=people {
+        match pass_of(left, demand)? {
+            Round::Again(after) => left = after,
+            Round::Done(after) => return Some(after),
+        }
     }
-    r
+    Some(left)
 }

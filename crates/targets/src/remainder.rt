@@ -1,16 +1,9 @@
 // The remainder: demand less the targets goes to the largest unpinned target, the last of equals, or to person 0.
 ghost use Rattle.std.specs.Prelude.{◌≡◌, ◌+◌, ◌<◌, ◌≤◌, map, pos, ◌+ℤ◌, ◌-ℤ◌};
-ghost use Rattle.targets.specs.Remainder.{with_target, total_of, better, best, target_of, adjusted};
+ghost use Rattle.targets.specs.Remainder.{total_of, better, best, target_of, adjusted};
 ghost use Rattle.targets.specs.Inside.{Small};
 
 use crate::{Best, Standing};
-
-fn with_target(sum: u64, l: Standing) -> u64
-    requires { (sum ≤ 35184372088832) × (l.target ≤ 1099511627776) }
-    ensures { (result ≡ with_target sum l) × (result ≤ sum + 1099511627776) }
-{
-    sum + l.target
-}
 
 // The targets, added up.
 pub(crate) fn total_of(standings: [Standing; 32]) -> u64
@@ -18,11 +11,8 @@ pub(crate) fn total_of(standings: [Standing; 32]) -> u64
     ensures { (result ≡ total_of standings) × (result ≤ 35184372088832) }
 {
     let mut sum: u64 = 0;
-    let mut i = 0;
-    while i < paper::PEOPLE_MOST {
-        let l = standings[i];
-        sum = with_target(sum, l);
-        i += 1;
+    for l in standings {
+        sum += l.target;
     }
     sum
 }
@@ -31,26 +21,15 @@ fn better_of(b: Best, l: Standing) -> Best
     requires { (b.next < 32) × (b.at ≤ b.next) }
     ensures { (result ≡ better b l) × (result.next ≡ b.next + 1) × (result.at ≤ b.next) }
 {
-    let at = b.next;
-    if l.pinned {
+    let next = b.next + 1;
+    if !l.pinned && b.top <= l.target {
         return Best {
-            at: b.at,
-            top: b.top,
-            next: at + 1,
-        };
-    }
-    if b.top <= l.target {
-        return Best {
-            at,
+            at: b.next,
             top: l.target,
-            next: at + 1,
+            next,
         };
     }
-    Best {
-        at: b.at,
-        top: b.top,
-        next: at + 1,
-    }
+    Best { next, ..b }
 }
 
 // Who takes the remainder.
@@ -62,20 +41,10 @@ fn best_of(standings: [Standing; 32]) -> Best
         top: 0,
         next: 0,
     };
-    let mut i = 0;
-    while i < paper::PEOPLE_MOST {
-        let l = standings[i];
+    for l in standings {
         b = better_of(b, l);
-        i += 1;
     }
     b
-}
-
-fn signed_target(l: Standing) -> i64
-    requires { l.target ≤ 1099511627776 }
-    ensures { result ≡ target_of l }
-{
-    l.target as i64
 }
 
 pub(crate) fn signed_of(standings: [Standing; 32]) -> [i64; 32]
@@ -83,12 +52,8 @@ pub(crate) fn signed_of(standings: [Standing; 32]) -> [i64; 32]
     ensures { result ≡ map target_of standings }
 {
     let mut out = [0i64; 32];
-    let mut i = 0;
-    while i < paper::PEOPLE_MOST {
-        let l = standings[i];
-        let t = signed_target(l);
-        out[i] = t;
-        i += 1;
+    for (i, l) in standings.iter().enumerate() {
+        out[i] = l.target as i64;
     }
     out
 }
@@ -108,10 +73,7 @@ pub(crate) fn adjusted_of(standings: [Standing; 32], demand: u32) -> [i64; 32]
 {
     let mut out = signed_of(standings);
     let total = total_of(standings);
-    let b = best_of(standings);
-    let at = b.at;
-    let l = standings[at];
-    let t = with_rest(l.target, demand, total);
-    out[at] = t;
+    let at = best_of(standings).at;
+    out[at] = with_rest(standings[at].target, demand, total);
     out
 }

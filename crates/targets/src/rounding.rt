@@ -8,11 +8,7 @@ ghost use Rattle.targets.specs.Passes.{rounded, within};
 pub(crate) fn is_within(x: f64) -> bool
     ensures { result ≡ within x }
 {
-    if -1099511627776.0 < x {
-        x < 1099511627776.0
-    } else {
-        false
-    }
+    -1099511627776.0 < x && x < 1099511627776.0
 }
 
 // The nearest whole number, halves away from zero: half of the whole part of 2x, plus one. x + x is exact.

@@ -9,39 +9,10 @@ use crate::{Standing, levels, remainder};
 
 // ---- who takes part
 
-fn is_unpinned(l: Standing) -> bool
-    ensures { result ≡ unpinned l }
-{
-    if l.pinned {
-        return false;
-    }
-    true
-}
-
 fn some_unpinned(standings: [Standing; 32]) -> bool
     ensures { result ≡ some unpinned standings }
 {
-    let mut i = 0;
-    while i < paper::PEOPLE_MOST {
-        let l = standings[i];
-        if is_unpinned(l) {
-            return true;
-        }
-        i += 1;
-    }
-    false
-}
-
-fn unpinned_standing(l: Standing) -> Standing
-    ensures { result ≡ unpin l }
-{
-    let person = l.person;
-    Standing {
-        person,
-        raw: l.raw,
-        target: l.target,
-        pinned: false,
-    }
+    standings.iter().any(|l| !l.pinned)
 }
 
 // The people's standings unpinned; those that take no part stay.
@@ -50,12 +21,9 @@ fn unpinned_standings(people: usize, standings: [Standing; 32]) -> [Standing; 32
     ensures { result ≡ take people (map unpin standings) ++ drop people standings }
 {
     let mut out = standings;
-    let mut i = 0;
-    while i < people {
+    for i in 0..people {
         let l = standings[i];
-        let m = unpinned_standing(l);
-        out[i] = m;
-        i += 1;
+        out[i] = Standing { pinned: false, ..l };
     }
     out
 }
@@ -77,13 +45,8 @@ fn mirrored_standing(l: Standing) -> Standing
     requires { l.target ≤ 1099511627776 }
     ensures { result ≡ mirrored l }
 {
-    let person = l.person;
-    Standing {
-        person,
-        raw: l.raw,
-        target: 1099511627776 - l.target,
-        pinned: l.pinned,
-    }
+    let target = 1099511627776 - l.target;
+    Standing { target, ..l }
 }
 
 fn mirrored_standings(standings: [Standing; 32]) -> [Standing; 32]
@@ -91,12 +54,8 @@ fn mirrored_standings(standings: [Standing; 32]) -> [Standing; 32]
     ensures { result ≡ map mirrored standings }
 {
     let mut out = standings;
-    let mut i = 0;
-    while i < paper::PEOPLE_MOST {
-        let l = standings[i];
-        let m = mirrored_standing(l);
-        out[i] = m;
-        i += 1;
+    for (i, l) in standings.iter().enumerate() {
+        out[i] = mirrored_standing(*l);
     }
     out
 }

@@ -7,7 +7,7 @@ ghost use Rattle.targets.specs.Inside.{Sound, RowSound};
 
 use crate::{Person, Standing};
 use slots::minutes_at;
-use slotset::{YesNo, row};
+use slotset::row;
 
 // The minutes of slot k, if the person is available for it.
 fn minutes_if_available(
@@ -22,11 +22,10 @@ fn minutes_if_available(
     requires { RowSound people person slots avail.now × (k < slots) }
     ensures { result ≡ minutes_if_available starts.now ends.now avail.now person k }
 {
-    let answer = row::contains(people, slots, avail, person, k);
-    match answer {
-        YesNo::Yes => minutes_at(starts, ends, k),
-        YesNo::No => 0,
-        YesNo::Refused(_) => 0,
+    match row::contains(people, slots, avail, person, k) {
+        Ok(true) => minutes_at(starts, ends, k),
+        Ok(false) => 0,
+        Err(_) => 0,
     }
 }
 
@@ -43,10 +42,8 @@ fn available_minutes(
     ensures { result ≡ available_minutes slots starts.now ends.now avail.now person }
 {
     let mut total: u32 = 0;
-    let mut k = 0;
-    while k < slots {
+    for k in 0..slots {
         total += minutes_if_available(people, slots, starts, ends, avail, person, k);
-        k += 1;
     }
     total
 }
@@ -112,16 +109,13 @@ pub(crate) fn standings_of(
         pinned: true,
     };
     let mut out = [none; 32];
-    let mut i = 0;
-    while i < people {
+    for i in 0..people {
         let p = Person {
             capacity: capacities[i],
             prior: priors[i],
         };
         let base = base_of(people, slots, fairness, starts, ends, avail, demand, i);
-        let l = standing_of(p, base);
-        out[i] = l;
-        i += 1;
+        out[i] = standing_of(p, base);
     }
     out
 }

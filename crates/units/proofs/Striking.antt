@@ -211,10 +211,6 @@ module _ (avail : List ℕ) (people slots units : ℕ) (begins : List ℕ) where
           ∙ strikes-next p units masks refl
 
     module _ (old masks : List ℕ) (w bit : ℕ) (room : units ≤ length old) (e : masks ≡ over (then p w) units old) (l : w < units) where
-      -- there is an entry for the unit
-      pub strike-room : w < length masks
-      strike-room = omega (arith, ap length e, length_over (then p w) units old)
-
       module _ (h : p < people) (b : bit ≡ 2 ^ p) (f : fits p w ≡ false) where
         at : get_or masks w 0 ≡ then p w w
         at = ap (λ (m : List ℕ). get_or m w 0) e ∙ get_d_over (then p w) units old w l (omega arith)

@@ -1,15 +1,14 @@
 -- What contracts of private functions cite, and no public one. Assumes nothing.
-use Rattle.std.specs.Prelude.{◌≡◌, Bool, true, false, ◌&&◌, ◌||◌, not, List, ℕ, zero, suc, ◌+◌, ◌*◌, ◌≤◌, eqb, ltb, length}
-use Rattle.paper.specs.Limits.{people_ok}
-use Rattle.slotset.specs.declared.Found.{Found}
-use Rattle.slotset.specs.declared.Found.TheVariants as found
-use Rattle.slotset.specs.declared.YesNo.{YesNo}
-use Rattle.slotset.specs.declared.YesNo.TheVariants.{Yes, No, Refused}
+use Rattle.std.specs.Prelude.{◌≡◌, Bool, true, false, ◌&&◌, ◌||◌, not, List, ℕ, zero, suc, ◌+◌, ◌*◌, ◌≤◌, eqb, ltb, length, Result, Ok, Err, Option, Some, None}
+use Rattle.paper.specs.Limits.{people_ok, number_of}
+use Rattle.paper.specs.Count.{among}
 use Rattle.slotset.specs.Answers.{row_refusal}
 use Rattle.slots.specs.Lent.{slots_ok}
 use Rattle.units.specs.Units.{unit_start, unit_end, units_ok}
 use Rattle.units.specs.Dates.{date_of}
-use Rattle.units.specs.Starts.{start_date}
+use Rattle.units.specs.declared.Settings.{Settings}
+use Rattle.units.specs.Answers.{Written, written_as}
+use Rattle.units.specs.Starts.{start_date, unit_begins, starts_row}
 use Rattle.units.specs.Domains.{able, clear, mask_of}
 
 -- ---- days
@@ -19,6 +18,11 @@ unfoldable pub date_begins : List ℕ → ℕ → Bool
 date_begins starts zero = true
 date_begins starts (suc j) = not (eqb (start_date starts (suc j)) (start_date starts j))
 
+-- the starts of units under a lock, or a refusal
+unfoldable pub starts_under_is : ℕ → Settings → ℕ → List ℕ → List ℕ → List ℕ → Written
+starts_under_is lock s slots starts ends begins =
+    written_as (number_of (starts_row s slots starts ends begins)) (among (unit_begins lock s.boundary s.value starts) slots) begins
+
 -- the first date that begins at a minute or after it
 unfoldable pub next_date : ℕ → ℕ
 next_date minute = date_of (minute + 1439)
@@ -26,22 +30,22 @@ next_date minute = date_of (minute + 1439)
 -- ---- answers of a set
 
 -- it is yes
-abbrev pub is_yes : YesNo → Bool
-is_yes Yes = true
-is_yes No = false
-is_yes (Refused n) = false
+abbrev pub is_yes : Result Bool ℕ → Bool
+is_yes (Ok true) = true
+is_yes (Ok false) = false
+is_yes (Err n) = false
 
 -- a search found nothing
-abbrev pub is_nothing : Found → Bool
-is_nothing (found.At i) = false
-is_nothing found.Nothing = true
-is_nothing (found.Refused n) = false
+abbrev pub is_nothing : Result (Option ℕ) ℕ → Bool
+is_nothing (Ok (Some i)) = false
+is_nothing (Ok None) = true
+is_nothing (Err n) = false
 
 -- the slot found, or a number that stands for none
-abbrev pub found_or : ℕ → Found → ℕ
-found_or none (found.At i) = i
-found_or none found.Nothing = none
-found_or none (found.Refused n) = none
+abbrev pub found_or : ℕ → Result (Option ℕ) ℕ → ℕ
+found_or none (Ok (Some i)) = i
+found_or none (Ok None) = none
+found_or none (Err n) = none
 
 -- a person is available for each slot from a up to e; no where the words are too short or the person is unknown
 unfoldable pub able_in : List ℕ → ℕ → ℕ → ℕ → ℕ → Bool

@@ -33,7 +33,7 @@ pub struct Settings {
 
 // The slots of a unit: `from` up to `to`, without `to`.
 #[derive(Clone, Copy)]
-pub enum UnitSlots {
-    Span { from: usize, to: usize },
-    Refused(u8),
+pub struct UnitSlots {
+    pub from: usize,
+    pub to: usize,
 }

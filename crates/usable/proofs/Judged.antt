@@ -1,38 +1,41 @@
 -- The five rules in their order: what the code's walks come to. And what the refusals' row leaves known. Assumes nothing.
 use mathlib.Core.Path.{◌≡◌, refl, sym, ap, ◌∙◌}
 use mathlib.Core.Bool.{Bool, true, cond}
-use Prim.Native.Nat.{ℕ, ◌*◌, ◌≤◌, ◌<◌}
+use Prim.Native.Nat.{ℕ, ◌*◌}
 use native.Mathlib.Omega.{arith}
+use Rattle.std.proofs.Common.{None, Some, Ok, Err}
 use lib.Dec.{leb}
 use lib.ListN.{length}
 use Rattle.paper.specs.Limits.{people_ok, slot_count_ok, number_of}
 use Rattle.paper.specs.Count.{all}
 use Rattle.paper.proofs.Logic.{by-test}
-use Rattle.paper.proofs.Rows.{passed, worked, kept}
+use Rattle.paper.proofs.Rows.{passed}
+use Rattle.slotset.proofs.Refusals.{answer-is, answer-refused}
 use Rattle.slots.specs.Lent.{SlotsSound, slots_ok, slot_room_ok}
 use Rattle.slots.proofs.LentLaws.{slots-sound}
 use Rattle.units.specs.Units.{units_ok}
 use Rattle.owners.specs.Recount.{first_fail}
-use Rattle.owners.proofs.Scans.{scan-no, scan-yes}
 use Rattle.usable.specs.declared.Verdict.{Verdict}
 use Rattle.usable.specs.declared.Verdict.TheVariants as verdict
 use Rattle.usable.specs.Rules.{allowed_at, uniform_at}
 use Rattle.usable.specs.Broken.{Brought, slots_of}
 use Rattle.usable.specs.Answers.{figures_ok, usable_row, or_broken, judged, verdict_is}
-use Rattle.usable.specs.Inside.{ByUnit}
+use Rattle.usable.specs.Inside.{ByUnit, fault}
 use Rattle.usable.proofs.Walks.{unit-start}
 
 -- a rule that is broken ends it, one that holds leaves what comes after it
-module _ (slots n : ℕ) (p : ℕ → Bool) (v : Verdict) (r : ℕ) (e : r ≡ first_fail slots p) where
-  pub breaks : r < slots → verdict.Broken n r ≡ or_broken slots n p v
-  unfolding or_broken
-  breaks h =
-      ap (verdict.Broken n) e
-      ∙ sym (ap (λ (b : Bool). cond b v (verdict.Broken n (first_fail slots p))) (scan-no slots r p e h))
+module _ (slots n : ℕ) (p : ℕ → Bool) (v : Verdict) where
+  pub breaks : (k : ℕ) → Some k ≡ fault slots p → verdict.Broken n k ≡ or_broken slots n p v
+  unfolding or_broken fault
+  breaks k e =
+      by-test (all slots p) _ (λ t. let z : Some k ≡ None = simp t at e in cc)
+      (λ f. let q : Some k ≡ Some (first_fail slots p) = simp f at e in simp f cc)
 
-  pub holds : slots ≤ r → {x : Verdict} → x ≡ v → x ≡ or_broken slots n p v
-  unfolding or_broken
-  holds h q = q ∙ sym (ap (λ (b : Bool). cond b v (verdict.Broken n (first_fail slots p))) (scan-yes slots r p e h))
+  pub holds : None ≡ fault slots p → {x : Verdict} → x ≡ v → x ≡ or_broken slots n p v
+  unfolding or_broken fault
+  holds e q =
+      by-test (all slots p) _ (λ t. simp t q)
+      (λ f. let z : None ≡ Some (first_fail slots p) = simp f at e in cc)
 
 -- where it may be used, each rule holds of every slot
 pub usable-holds : (slots n : ℕ) (p : ℕ → Bool) (v : Verdict) → or_broken slots n p v ≡ verdict.Usable
@@ -93,10 +96,11 @@ row-asks B z =
     (slots-sound (slots_of B) B.plan.starts B.plan.ends R.lent, unit-start (slots_of B) B.units B.begins R.units)
 
 -- the answer, by the number
-pub judged-when : (B : Brought) → number_of (usable_row B) ≡ 0 → verdict_is B ≡ judged B
-unfolding verdict_is
-judged-when B z = worked (number_of (usable_row B)) _ (judged B) z
+module _ (B : Brought) (n : ℕ) (e : n ≡ number_of (usable_row B)) where
+  pub judged-when : n ≡ 0 → Ok (judged B) ≡ verdict_is B
+  unfolding verdict_is
+  judged-when z = answer-is n _ e z (judged B) (judged B) refl
 
-pub refused-when : (B : Brought) → (number_of (usable_row B) ≡ 0 → ⊥) → verdict_is B ≡ verdict.Refused (number_of (usable_row B))
-unfolding verdict_is
-refused-when B h = kept (number_of (usable_row B)) _ (judged B) h
+  pub refused-when : (n ≡ 0 → ⊥) → Err n ≡ verdict_is B
+  unfolding verdict_is
+  refused-when h = answer-refused n _ e h (judged B)

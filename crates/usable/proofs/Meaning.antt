@@ -277,7 +277,6 @@ abbrev From : Brought → ℕ → Verdict → Type 0
 From B r verdict.Usable = (n k : ℕ) → r ≤ n → Breaks B n k → ⊥
 From B r (verdict.Broken n at) =
     (r ≤ n) × Breaks B n at × ((k : ℕ) → k < at → Breaks B n k → ⊥) × ((m k : ℕ) → r ≤ m → m < n → Breaks B m k → ⊥)
-From B r (verdict.Refused n) = ⊥
 
 module _ (B : Brought) (r : ℕ) where
   more-none : ((k : ℕ) → Breaks B r k → ⊥) → (n k : ℕ) → r ≤ n → (suc r ≤ n → Breaks B n k → ⊥) → Breaks B n k → ⊥
@@ -290,7 +289,6 @@ module _ (B : Brought) (r : ℕ) where
   more z verdict.Usable f = λ n k h b. more-none z n k h (λ l. f n k l) b
   more z (verdict.Broken n at) f =
       (omega (arith, f.0), f.1, f.2, λ m k h l b. more-none z m k h (λ g. f.3 m k g l) b)
-  more z (verdict.Refused n) f = f
 
   -- a rule, and those after it
   step : (p : ℕ → Bool) → Tests B r p → (v : Verdict) → From B (suc r) v → From B r (or_broken (slots_of B) r p v)
@@ -333,7 +331,6 @@ from_first B (verdict.Broken n at) f = record { breaks = f.1; lowest = f.2; firs
     first : (m k : ℕ) → m < n → Breaks B m k → ⊥
     first zero k l b = b
     first (suc m) k l b = f.3 (suc m) k (omega arith) l b
-from_first B (verdict.Refused n) f = f
 
 -- THE LAW: the verdict means what it says
 pub judged-means : (B : Brought) → number_of (usable_row B) ≡ 0 → Means B (judged B)
@@ -352,8 +349,6 @@ judged-means B z =
 pub means-one : (B : Brought) (v w : Verdict) → Means B v → Means B w → v ≡ w
 means-one B verdict.Usable verdict.Usable a b = refl
 means-one B verdict.Usable (verdict.Broken n k) a b = absurd (a n k b.breaks)
-means-one B verdict.Usable (verdict.Refused n) a b = absurd b
-means-one B (verdict.Broken n k) (verdict.Refused m) a b = absurd b
 means-one B (verdict.Broken n k) verdict.Usable a b = absurd (b n k a.breaks)
 means-one B (verdict.Broken n k) (verdict.Broken m j) a b =
     ⊎_elim (λ (l : n < m). absurd (b.first n k l a.breaks))
@@ -368,4 +363,3 @@ means-one B (verdict.Broken n k) (verdict.Broken m j) a b =
     ⊎_elim (λ (y : j < k). absurd (a.lowest j y d))
     (λ (y : k ≤ j). let e : k ≡ j = omega arith in ap₂ verdict.Broken q e) (lt-or-ge j k)) (lt-or-ge k j))
     (lt-or-ge m n)) (lt-or-ge n m)
-means-one B (verdict.Refused n) w a b = absurd a

@@ -1,9 +1,10 @@
 -- What the walks keep: the unit of the slot, the first fault from a slot on, from when on each owner may start again. Assumes nothing.
-use mathlib.Core.Path.{◌≡◌, sym, ap, ◌∙◌, subst}
+use mathlib.Core.Path.{◌≡◌, sym, ap, ◌∙◌}
 use mathlib.Core.Bool.{Bool, true, false, cond}
 use mathlib.Core.List.{List}
 use mathlib.Core.Logic.{⊎_elim}
 use Prim.Native.Nat.{ℕ, ◌+◌, ◌-◌, ◌≤◌, ◌<◌}
+use Rattle.std.proofs.Common.{Option, None, Some, le_antisymm}
 use native.Mathlib.Decide.{ℕ_discrete}
 use native.Mathlib.Numerals.{add-one}
 use native.Mathlib.Omega.{arith}
@@ -11,14 +12,14 @@ use borrow.Author.Tests.{eq-eqb, ne_eqb}
 use lib.Dec.{eqb}
 use lib.ListN.{length, get_or, set, replicate, length-replicate, get_or-replicate, get_or-eq_default}
 use lib.Seq.{get_or-set_same, get_or-set_other}
-use Rattle.paper.specs.Count.{FirstWhere}
+use Rattle.paper.specs.Count.{all, FirstWhere}
+use Rattle.paper.proofs.Count.{each_all, all-fails}
 use Rattle.paper.proofs.Logic.{lt-or-ge}
 use Rattle.units.specs.Units.{unit_start, unit_end, units_ok, unit_of, InUnit}
 use Rattle.units.proofs.Units.{starts-begin, ends_next, ends_last, units-some, unit-some, unit-of-only}
-use Rattle.owners.specs.Recount.{first_fail}
-use Rattle.owners.proofs.Scans.{first-only}
+use Rattle.owners.proofs.Scans.{scan-fails}
 use Rattle.usable.specs.Rules.{uniform_at, shift_last, capped_at}
-use Rattle.usable.specs.Inside.{ByUnit, end_from, capped_by, free_from}
+use Rattle.usable.specs.Inside.{ByUnit, end_from, capped_by, free_from, fault}
 use Rattle.usable.proofs.ShiftLaws.{end-from, capped-by}
 
 -- ---- units
@@ -70,7 +71,7 @@ module _ (slots units : ℕ) (begins o : List ℕ) (k u w v a : ℕ) (ok : units
 
 -- ---- from the last slot down
 
--- the first fault from slot k on, where the one after it is known
+-- the first fault from slot k on, where that after k is known
 pub fault-down : (p : ℕ → Bool) (n k r : ℕ) (b : Bool) → 0 < k → k ≤ n → b ≡ p (k - 1) → FirstWhere false p k n r
     → FirstWhere false p (k - 1) n (cond b r (k - 1))
 fault-down p n k r true z h e F =
@@ -93,10 +94,36 @@ pub fault-none : (p : ℕ → Bool) (n : ℕ) → FirstWhere false p n n n
 fault-none p n =
     record { from = omega arith; within = omega arith; here = λ l. absurd (omega arith); before = λ i a b. absurd (omega arith) }
 
+-- the same of a fault that may not be there
+abbrev pub IsFault : (ℕ → Bool) → ℕ → ℕ → Option ℕ → Type 0
+IsFault p k n None = FirstWhere false p k n n
+IsFault p k n (Some r) = (r < n) × FirstWhere false p k n r
+
+pub fault-kept : (p : ℕ → Bool) (n k : ℕ) (x : Option ℕ) → 0 < k → k ≤ n → p (k - 1) ≡ true → IsFault p k n x → IsFault p (k - 1) n x
+fault-kept p n k None z h e F = fault-down p n k n true z h (sym e) F
+fault-kept p n k (Some r) z h e F = (F.0, fault-down p n k r true z h (sym e) F.1)
+
+pub fault-here : (p : ℕ → Bool) (n k : ℕ) → 0 < k → k ≤ n → p (k - 1) ≡ false → IsFault p (k - 1) n (Some (k - 1))
+fault-here p n k z h e =
+    (omega arith, record { from = omega arith; within = omega arith; here = λ l. e; before = λ i a b. absurd (omega arith) })
+
 -- from slot 0 on, it is the first of all
-pub fault-first : (p : ℕ → Bool) (n k r : ℕ) → k ≤ 0 → FirstWhere false p k n r → r ≡ first_fail n p
-fault-first p n k r z F =
-    first-only n p r record { within = F.within; before = λ i l. F.before i (omega arith) l; fails = λ l. F.here l }
+pub fault-first : (p : ℕ → Bool) (n k : ℕ) (x : Option ℕ) → k ≤ 0 → IsFault p k n x → x ≡ fault n p
+unfolding fault
+fault-first p n k None z F = simp (each_all n p (λ i l. F.before i (omega arith) l))
+fault-first p n k (Some r) z F =
+    let a : all r p ≡ true = each_all r p (λ i l. F.1.before i (omega arith) l) in
+    let f : p r ≡ false = F.1.here F.0 in
+    simp (all-fails n r p F.0 f) (ap Some (scan-fails n r p F.0 a f))
+
+-- from the first slot up: all below i pass, and i does not; or all pass
+pub fault-at : (n i : ℕ) (p : ℕ → Bool) → i < n → all i p ≡ true → p i ≡ false → Some i ≡ fault n p
+unfolding fault
+fault-at n i p h a f = simp (all-fails n i p h f) (ap Some (scan-fails n i p h a f))
+
+pub fault-ends : (n i : ℕ) (p : ℕ → Bool) → i ≤ n → n ≤ i → all i p ≡ true → None ≡ fault n p
+unfolding fault
+fault-ends n i p h g a = let t : all n p ≡ true = ap (λ (m : ℕ). all m p) (le_antisymm g h) ∙ a in simp t
 
 -- ---- from when on each owner may start again
 
@@ -124,9 +151,9 @@ free_more rest ends o free k w n len ew hw en f v h =
         ∙ ap (λ (c : Bool). cond c (get_or ends k 0 + rest) (free_from rest ends o k v)) e
 
 -- rule 4, one slot further down: where its shift ends, and the first fault from it on
-module _ (slots cap : ℕ) (starts ends o : List ℕ) (found end k e r : ℕ) (t : Bool) (z : 0 < k) (h : k ≤ slots)
-    (F : FirstWhere false (capped_at slots cap starts ends o) k slots found) (q : k < slots → end ≡ get_or ends (shift_last slots o k) 0)
-    (ee : e ≡ end_from slots ends o (k - 1) end) (et : t ≡ capped_by cap starts o (k - 1) e) (er : r ≡ cond t found (k - 1)) where
+module _ (slots cap : ℕ) (starts ends o : List ℕ) (end k e : ℕ) (t : Bool) (z : 0 < k) (h : k ≤ slots)
+    (q : k < slots → end ≡ get_or ends (shift_last slots o k) 0)
+    (ee : e ≡ end_from slots ends o (k - 1) end) (et : t ≡ capped_by cap starts o (k - 1) e) where
   down : k - 1 + 1 ≡ k
   down = omega arith
 
@@ -136,8 +163,5 @@ module _ (slots cap : ℕ) (starts ends o : List ℕ) (found end k e r : ℕ) (t
       ∙ end-from slots o (k - 1) (omega arith) ends end
       (λ l. q (omega (arith, down)) ∙ sym (ap (λ (i : ℕ). get_or ends (shift_last slots o i) 0) down))
 
-  pub fault-capped : FirstWhere false (capped_at slots cap starts ends o) (k - 1) slots r
-  fault-capped =
-      subst (FirstWhere false (capped_at slots cap starts ends o) (k - 1) slots) (sym er)
-      (fault-down (capped_at slots cap starts ends o) slots k found t z h
-      (et ∙ capped-by slots o (k - 1) (omega arith) cap starts ends e capped-end) F)
+  pub capped-here : t ≡ capped_at slots cap starts ends o (k - 1)
+  capped-here = et ∙ capped-by slots o (k - 1) (omega arith) cap starts ends e capped-end

@@ -1,7 +1,7 @@
 -- What a caller is answered of a rota made elsewhere, refused or not. Assumes nothing.
-use Rattle.std.specs.Prelude.{Bool, cond, ◌&&◌, List, [], ◌∷◌, ℕ, ◌*◌, leb, length}
+use Rattle.std.specs.Prelude.{Bool, cond, ◌&&◌, List, [], ◌∷◌, ℕ, ◌*◌, leb, length, Result}
 use Rattle.paper.specs.Limits.{set_words, last_minute, people_ok, slot_count_ok, Test, test, number_of}
-use Rattle.paper.specs.Rows.{unless}
+use Rattle.paper.specs.Rows.{answer_as}
 use Rattle.paper.specs.Count.{all}
 use Rattle.slots.specs.Lent.{slot_room_ok, slots_ok}
 use Rattle.units.specs.Units.{units_ok}
@@ -39,11 +39,5 @@ judged B =
     (or_broken (slots_of B) 5 (rested_at (slots_of B) B.rest B.plan.starts B.plan.ends B.owners) verdict.Usable))))
 
 -- the answer: the number of the refusal, or the verdict
-unfoldable pub verdict_is : Brought → Verdict
-verdict_is B = unless (number_of (usable_row B)) (verdict.Refused (number_of (usable_row B))) (judged B)
-
--- the number of the refusal, or 0
-abbrev pub verdict_refusal : Verdict → ℕ
-verdict_refusal verdict.Usable = 0
-verdict_refusal (verdict.Broken rule at) = 0
-verdict_refusal (verdict.Refused n) = n
+unfoldable pub verdict_is : Brought → Result Verdict ℕ
+verdict_is B = answer_as (number_of (usable_row B)) (judged B)

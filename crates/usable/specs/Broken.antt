@@ -108,8 +108,7 @@ pub record FirstBroken (B : Brought) (rule at : ℕ) : Type 0 where
   pub lowest : (k : ℕ) → k < at → Breaks B rule k → ⊥
   pub first : (n k : ℕ) → n < rule → Breaks B n k → ⊥
 
--- what each answer means
+-- what each verdict means
 abbrev pub Means : Brought → Verdict → Type 0
 Means B verdict.Usable = AllHold B
 Means B (verdict.Broken rule at) = FirstBroken B rule at
-Means B (verdict.Refused n) = ⊥

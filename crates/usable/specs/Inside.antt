@@ -1,7 +1,9 @@
 -- What contracts of private functions cite: what the checks leave known, and what one slot is asked. Assumes nothing.
-use Rattle.std.specs.Prelude.{◌≡◌, Bool, true, not, cond, ◌&&◌, ◌||◌, List, ℕ, zero, suc, ◌+◌, ◌-◌, ◌≤◌, ◌<◌, eqb, leb, ltb, get_or}
+use Rattle.std.specs.Prelude.{◌≡◌, Bool, true, not, cond, ◌&&◌, ◌||◌, List, ℕ, zero, suc, ◌+◌, ◌-◌, ◌≤◌, ◌<◌, eqb, leb, ltb, get_or, Option, None, Some}
 use Rattle.paper.specs.Limits.{nobody}
+use Rattle.paper.specs.Count.{all}
 use Rattle.units.specs.Units.{unit_start, unit_end, units_ok}
+use Rattle.owners.specs.Recount.{first_fail}
 
 -- slot k is in unit u, or just behind it
 pub record ByUnit (slots units : ℕ) (begins : List ℕ) (u k : ℕ) : Type 0 where
@@ -9,6 +11,10 @@ pub record ByUnit (slots units : ℕ) (begins : List ℕ) (u k : ℕ) : Type 0 w
   pub known : u < units
   pub from : unit_start begins u ≤ k
   pub upto : k ≤ unit_end slots units begins u
+
+-- the first number below n that fails, if there is one
+unfoldable pub fault : ℕ → (ℕ → Bool) → Option ℕ
+fault n p = cond (all n p) None (Some (first_fail n p))
 
 -- slot k opens a shift, by its owner and that of the slot before it alone
 unfoldable pub opens_by_owners : List ℕ → ℕ → Bool

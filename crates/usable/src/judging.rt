@@ -13,16 +13,11 @@ use crate::shifts::{first_close, first_long};
 use paper::Refusal;
 
 // Rule 7 of cap and rest.
+#[tactic(auto, unfolding(crate::specs::Answers::figures_ok))]
 fn figures_ok(cap: u32, rest: u32) -> bool
     ensures { result ≡ figures_ok cap rest }
 {
-    if cap < 1 {
-        return false;
-    }
-    if paper::LAST_MINUTE < cap {
-        return false;
-    }
-    rest <= paper::LAST_MINUTE
+    1 <= cap && cap <= paper::LAST_MINUTE && rest <= paper::LAST_MINUTE
 }
 
 // What stands against judging it: 1, 2, 7 or 9.
@@ -74,40 +69,20 @@ fn first_broken(
     requires by_unit { ByUnit slots units begins.now 0 0 }
     ensures { result ≡ judged (brought people slots units cap rest starts.now ends.now avail.now begins.now frozen.now published.now owners.now) }
 {
-    let barred = first_barred(people, slots, avail, owners);
-    if barred < slots {
-        return Verdict::Broken {
-            rule: 1,
-            slot: barred,
-        };
+    if let Some(slot) = first_barred(people, slots, avail, owners) {
+        return Verdict::Broken { rule: 1, slot };
     }
-    let moved = first_moved(slots, frozen, published, owners);
-    if moved < slots {
-        return Verdict::Broken {
-            rule: 2,
-            slot: moved,
-        };
+    if let Some(slot) = first_moved(slots, frozen, published, owners) {
+        return Verdict::Broken { rule: 2, slot };
     }
-    let uneven = first_uneven(slots, units, begins, owners);
-    if uneven < slots {
-        return Verdict::Broken {
-            rule: 3,
-            slot: uneven,
-        };
+    if let Some(slot) = first_uneven(slots, units, begins, owners) {
+        return Verdict::Broken { rule: 3, slot };
     }
-    let long = first_long(slots, cap, starts, ends, owners);
-    if long < slots {
-        return Verdict::Broken {
-            rule: 4,
-            slot: long,
-        };
+    if let Some(slot) = first_long(slots, cap, starts, ends, owners) {
+        return Verdict::Broken { rule: 4, slot };
     }
-    let close = first_close(slots, rest, starts, ends, owners);
-    if close < slots {
-        return Verdict::Broken {
-            rule: 5,
-            slot: close,
-        };
+    if let Some(slot) = first_close(slots, rest, starts, ends, owners) {
+        return Verdict::Broken { rule: 5, slot };
     }
     Verdict::Usable
 }
@@ -126,7 +101,7 @@ pub fn may_be_used(
     frozen: &[u64],
     published: &[u8],
     owners: &[u8],
-) -> Verdict
+) -> Result<Verdict, u8>
     ensures { result ≡ verdict_is (brought people slots units cap rest starts.now ends.now avail.now begins.now frozen.now published.now owners.now) }
 {
     let n = usable_refusal(
@@ -134,9 +109,9 @@ pub fn may_be_used(
     )
     .number;
     if n == 0 {
-        return first_broken(
+        return Ok(first_broken(
             people, slots, units, cap, rest, starts, ends, avail, begins, frozen, published, owners,
-        );
+        ));
     }
-    Verdict::Refused(n)
+    Err(n)
 }

@@ -7,10 +7,9 @@ mod shifts;
 
 pub use judging::may_be_used;
 
-// The answer: it may be used; or the first broken rule, 1 to 5, and the lowest slot at which it shows; or a refusal.
+// The verdict: it may be used; or the first broken rule, 1 to 5, and the lowest slot at which it shows.
 #[derive(Clone, Copy)]
 pub enum Verdict {
     Usable,
     Broken { rule: u8, slot: usize },
-    Refused(u8),
 }

@@ -1,40 +1,40 @@
 // The first three rules: owners known and available, frozen slots as published, units uniform. Each is one walk over the slots.
 ghost use Rattle.std.specs.Prelude.{◌≡◌, ◌<◌};
 ghost use Rattle.units.specs.Units.{InUnit};
-ghost use Rattle.owners.specs.Recount.{first_fail};
 ghost use Rattle.usable.specs.Rules.{allowed_at, published_at, uniform_at};
-ghost use Rattle.usable.specs.Inside.{ByUnit};
+ghost use Rattle.usable.specs.Inside.{ByUnit, fault};
 
 use owners::{available_for, known_by, owner_at};
 use slotset::bit::holds;
 
 // Whether the owner of slot k is known and available for it; nobody is.
+#[tactic(auto, unfolding(crate::specs::Rules::allowed_at, owners::specs::Recount::known_at, owners::specs::Recount::available_at))]
 fn is_allowed(people: usize, avail: &[u64], owners: &[u8], k: usize) -> bool
     ensures { result ≡ allowed_at people avail.now owners.now k }
 {
     let owner = owner_at(owners, k);
-    if known_by(people, owner) {
-        return available_for(avail, owner, k);
-    }
-    false
+    known_by(people, owner) && available_for(avail, owner, k)
 }
 
-// The first slot whose owner is unknown or not available for it, or the slot count.
-pub(crate) fn first_barred(people: usize, slots: usize, avail: &[u64], owners: &[u8]) -> usize
-    ensures { result ≡ first_fail slots (allowed_at people avail.now owners.now) }
+// The first slot whose owner is unknown or not available for it, if there is one.
+pub(crate) fn first_barred(
+    people: usize,
+    slots: usize,
+    avail: &[u64],
+    owners: &[u8],
+) -> Option<usize>
+    ensures { result ≡ fault slots (allowed_at people avail.now owners.now) }
 {
-    let mut k: usize = 0;
-    while k < slots {
-        if is_allowed(people, avail, owners, k) {
-            k += 1;
-        } else {
-            return k;
+    for k in 0..slots {
+        if !is_allowed(people, avail, owners, k) {
+            return Some(k);
         }
     }
-    slots
+    None
 }
 
 // Whether slot k is not frozen, or has its published owner.
+#[tactic(auto, unfolding(crate::specs::Rules::published_at, units::specs::Domains::unfrozen))]
 fn is_published(frozen: &[u64], published: &[u8], owners: &[u8], k: usize) -> bool
     ensures { result ≡ published_at frozen.now published.now owners.now k }
 {
@@ -44,19 +44,21 @@ fn is_published(frozen: &[u64], published: &[u8], owners: &[u8], k: usize) -> bo
     true
 }
 
-// The first frozen slot that has another owner than the published one, or the slot count.
-pub(crate) fn first_moved(slots: usize, frozen: &[u64], published: &[u8], owners: &[u8]) -> usize
-    ensures { result ≡ first_fail slots (published_at frozen.now published.now owners.now) }
+// The first frozen slot that has another owner than the published one, if there is one.
+pub(crate) fn first_moved(
+    slots: usize,
+    frozen: &[u64],
+    published: &[u8],
+    owners: &[u8],
+) -> Option<usize>
+    ensures { result ≡ fault slots (published_at frozen.now published.now owners.now) }
 {
-    let mut k: usize = 0;
-    while k < slots {
-        if is_published(frozen, published, owners, k) {
-            k += 1;
-        } else {
-            return k;
+    for k in 0..slots {
+        if !is_published(frozen, published, owners, k) {
+            return Some(k);
         }
     }
-    slots
+    None
 }
 
 // The unit of slot k, which is in unit u or just behind it.
@@ -71,20 +73,22 @@ fn unit_at(slots: usize, units: usize, begins: &[u16], u: usize, k: usize) -> us
     u + 1
 }
 
-// The first slot that has another owner than the first slot of its unit, or the slot count.
-pub(crate) fn first_uneven(slots: usize, units: usize, begins: &[u16], owners: &[u8]) -> usize
+// The first slot that has another owner than the first slot of its unit, if there is one.
+pub(crate) fn first_uneven(
+    slots: usize,
+    units: usize,
+    begins: &[u16],
+    owners: &[u8],
+) -> Option<usize>
     requires { ByUnit slots units begins.now 0 0 }
-    ensures { result ≡ first_fail slots (uniform_at units begins.now owners.now) }
+    ensures { result ≡ fault slots (uniform_at units begins.now owners.now) }
 {
     let mut u: usize = 0;
-    let mut k: usize = 0;
-    while k < slots {
+    for k in 0..slots {
         u = unit_at(slots, units, begins, u, k);
-        if owner_at(owners, k) == owner_at(owners, units::start_of(begins, u)) {
-            k += 1;
-        } else {
-            return k;
+        if owner_at(owners, k) != owner_at(owners, units::start_of(begins, u)) {
+            return Some(k);
         }
     }
-    slots
+    None
 }

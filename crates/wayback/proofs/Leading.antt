@@ -1,5 +1,6 @@
 -- What the outcome of a way back means: the columns hold its draws, these lead to the remembered owners, and a unit in the way stays there.
 -- Assumes nothing.
+use Rattle.std.specs.Prelude.{Ok, Err}
 use mathlib.Core.Path.{◌≡◌, refl, sym, ap, ap₂, subst, ◌∙◌}
 use mathlib.Core.Bool.{Bool, true, false, cond, not, ◌&&◌, ◌||◌}
 use mathlib.Core.List.{List, [], ◌∷◌, ◌++◌}
@@ -258,32 +259,32 @@ module _ (P : Plan) (avail : List ℕ) (units : ℕ) (begins frozen a o : List �
   result = way_back_of P avail units begins frozen a o D ks fs ss
 
   abbrev inner : Bool → Outcome
-  inner b = cond b (way_of (way.NoWay (first_in_way board a o)) ks fs ss) (draws_written (back board a o) ks fs ss)
+  inner b = cond b (way_of (Ok (way.NoWay (first_in_way board a o))) ks fs ss) (draws_written (back board a o) ks fs ss)
 
   number_is : f.number ≡ number_of (way_row P avail units begins frozen a o D ks fs ss)
   number_is = said (way_row P avail units begins frozen a o D ks fs ss) refl
 
-  pub is-refused : (number_of (way_row P avail units begins frozen a o D ks fs ss) ≡ 0 → ⊥) → result ≡ way_of (way.Refused f) ks fs ss
+  pub is-refused : (number_of (way_row P avail units begins frozen a o D ks fs ss) ≡ 0 → ⊥) → result ≡ way_of (Err f) ks fs ss
   unfolding way_back_of
   is-refused n =
-      ap (λ (b : Bool). cond b (inner (ltb (first_in_way board a o) units)) (way_of (way.Refused f) ks fs ss))
+      ap (λ (b : Bool). cond b (inner (ltb (first_in_way board a o) units)) (way_of (Err f) ks fs ss))
       (ne_eqb _ 0 (λ q. n (sym number_is ∙ q)))
 
   module _ (z : number_of (way_row P avail units begins frozen a o D ks fs ss) ≡ 0) where
     is-inner : result ≡ inner (ltb (first_in_way board a o) units)
     unfolding way_back_of
     is-inner =
-        ap (λ (b : Bool). cond b (inner (ltb (first_in_way board a o) units)) (way_of (way.Refused f) ks fs ss))
+        ap (λ (b : Bool). cond b (inner (ltb (first_in_way board a o) units)) (way_of (Err f) ks fs ss))
         (eq-eqb _ 0 (number_is ∙ z))
 
-    pub is-blocked : first_in_way board a o < units → result ≡ way_of (way.NoWay (first_in_way board a o)) ks fs ss
+    pub is-blocked : first_in_way board a o < units → result ≡ way_of (Ok (way.NoWay (first_in_way board a o))) ks fs ss
     is-blocked h = is-inner ∙ ap inner (lt-ltb _ _ h)
 
     pub is_found : units ≤ first_in_way board a o → result ≡ draws_written (back board a o) ks fs ss
     is_found h = is-inner ∙ ap inner (le-ltb _ _ h)
 
   -- which of them it is, by the answer
-  pub found-says : (n : ℕ) → result.answer ≡ way.Draws n
+  pub found-says : (n : ℕ) → result.answer ≡ Ok (way.Draws n)
       → (number_of (way_row P avail units begins frozen a o D ks fs ss) ≡ 0) × (units ≤ first_in_way board a o) × (length (back board a o) ≡ n)
   unfolding draws_written way_of
   found-says n e =
@@ -292,17 +293,17 @@ module _ (P : Plan) (avail : List ℕ) (units : ℕ) (begins frozen a o : List �
       let z = eqb-true _ _ t in
       ⊎_elim
       (λ (h : first_in_way board a o < units).
-      let q : way.NoWay (first_in_way board a o) ≡ way.Draws n = sym (ap (λ (y : Outcome). y.answer) (is-blocked z h)) ∙ e in
+      let q : Ok (way.NoWay (first_in_way board a o)) ≡ Ok (way.Draws n) = sym (ap (λ (y : Outcome). y.answer) (is-blocked z h)) ∙ e in
       let x : ◌≡◌ {A = ℕ} 0 1 = cc in absurd (omega arith))
       (λ (h : units ≤ first_in_way board a o).
-      let q : way.Draws (length (back board a o)) ≡ way.Draws n = sym (ap (λ (y : Outcome). y.answer) (is_found z h)) ∙ e in
+      let q : Ok (way.Draws (length (back board a o))) ≡ Ok (way.Draws n) = sym (ap (λ (y : Outcome). y.answer) (is_found z h)) ∙ e in
       (z, h, cc))
       (lt-or-ge (first_in_way board a o) units))
       (λ n'.
-      let q : way.Refused f ≡ way.Draws n = sym (ap (λ (y : Outcome). y.answer) (is-refused (eqb-false _ _ n'))) ∙ e in
+      let q : Err f ≡ Ok (way.Draws n) = sym (ap (λ (y : Outcome). y.answer) (is-refused (eqb-false _ _ n'))) ∙ e in
       let x : ◌≡◌ {A = ℕ} 0 1 = cc in absurd (omega arith))
 
-  pub blocked-says : (u : ℕ) → result.answer ≡ way.NoWay u
+  pub blocked-says : (u : ℕ) → result.answer ≡ Ok (way.NoWay u)
       → (number_of (way_row P avail units begins frozen a o D ks fs ss) ≡ 0) × (first_in_way board a o < units) × (first_in_way board a o ≡ u)
   unfolding draws_written way_of
   blocked-says u e =
@@ -311,12 +312,12 @@ module _ (P : Plan) (avail : List ℕ) (units : ℕ) (begins frozen a o : List �
       let z = eqb-true _ _ t in
       ⊎_elim
       (λ (h : first_in_way board a o < units).
-      let q : way.NoWay (first_in_way board a o) ≡ way.NoWay u = sym (ap (λ (y : Outcome). y.answer) (is-blocked z h)) ∙ e in
+      let q : Ok (way.NoWay (first_in_way board a o)) ≡ Ok (way.NoWay u) = sym (ap (λ (y : Outcome). y.answer) (is-blocked z h)) ∙ e in
       (z, h, cc))
       (λ (h : units ≤ first_in_way board a o).
-      let q : way.Draws (length (back board a o)) ≡ way.NoWay u = sym (ap (λ (y : Outcome). y.answer) (is_found z h)) ∙ e in
+      let q : Ok (way.Draws (length (back board a o))) ≡ Ok (way.NoWay u) = sym (ap (λ (y : Outcome). y.answer) (is_found z h)) ∙ e in
       let x : ◌≡◌ {A = ℕ} 0 1 = cc in absurd (omega arith))
       (lt-or-ge (first_in_way board a o) units))
       (λ n'.
-      let q : way.Refused f ≡ way.NoWay u = sym (ap (λ (y : Outcome). y.answer) (is-refused (eqb-false _ _ n'))) ∙ e in
+      let q : Err f ≡ Ok (way.NoWay u) = sym (ap (λ (y : Outcome). y.answer) (is-refused (eqb-false _ _ n'))) ∙ e in
       let x : ◌≡◌ {A = ℕ} 0 1 = cc in absurd (omega arith))

@@ -1,4 +1,5 @@
 -- What stands in the way, test by test, and what stands against a way back. Assumes nothing.
+use Rattle.std.specs.Prelude.{Option, Some, None, Result, Ok, Err}
 use mathlib.Core.Path.{◌≡◌, refl, sym, ap, ap₂, ◌∙◌}
 use mathlib.Core.Bool.{Bool, true, false, cond, not, ◌&&◌, ◌||◌}
 use mathlib.Core.List.{List, [], ◌∷◌}
@@ -9,13 +10,11 @@ use lib.Dec.{eqb, leb}
 use lib.ListN.{length}
 use Rattle.paper.specs.Limits.{nobody, Test, test_in, test, number_of}
 use Rattle.paper.specs.declared.Refusal.{Refusal}
-use Rattle.paper.specs.Rows.{accepted, refusal_of}
+use Rattle.paper.specs.Rows.{accepted, refusal_of, answer_as}
 use Rattle.paper.specs.Count.{all}
 use Rattle.paper.proofs.Logic.{by-test, both, three}
 use Rattle.paper.proofs.Rows.{numbered, said}
-use Rattle.slotset.specs.declared.Found.{Found}
-use Rattle.slotset.specs.declared.Found.TheVariants as found
-use Rattle.slotset.specs.Answers.{row_refusal, found_as, row_slots}
+use Rattle.slotset.specs.Answers.{row_refusal, row_slots}
 use Rattle.slotset.specs.Search.{next_set}
 use Rattle.units.specs.Units.{unit_start, unit_end}
 use Rattle.units.specs.Domains.{clear, unit_frozen}
@@ -35,17 +34,17 @@ use Rattle.wayback.specs.Answers.{way_room_ok, remembered_row, way_row}
 
 -- ---- a frozen unit, by the search for a frozen slot of it
 
-found-not : (x : Found) → found_one x ≡ not (is_nothing x)
-found-not (found.At i) = refl
-found-not found.Nothing = refl
-found-not (found.Refused n) = refl
+found-not : (x : Result (Option ℕ) ℕ) → found_one x ≡ not (is_nothing x)
+found-not (Ok (Some i)) = refl
+found-not (Ok None) = refl
+found-not (Err n) = refl
 
 pub frozen-by : (slots units : ℕ) (begins frozen : List ℕ) (u a e : ℕ) → a ≡ unit_start begins u → e ≡ unit_end slots units begins u
     → u < units → e ≤ 1024 → 16 ≤ length frozen
-    → found_one (found_as (row_refusal frozen 1 0 e) (next_set (row_slots frozen 0) e a)) ≡ frozen_unit slots units begins frozen u
+    → found_one (answer_as (row_refusal frozen 1 0 e) (next_set (row_slots frozen 0) e a)) ≡ frozen_unit slots units begins frozen u
 unfolding frozen_unit unit_frozen
 frozen-by slots units begins frozen u a e pa pe h few room =
-    found-not (found_as (row_refusal frozen 1 0 e) (next_set (row_slots frozen 0) e a))
+    found-not (answer_as (row_refusal frozen 1 0 e) (next_set (row_slots frozen 0) e a))
     ∙ ap not (clear-law frozen a e ∙ clear-known frozen a e room few ∙ ap₂ (clear frozen) pa pe)
     ∙ sym (ap (λ (b : Bool). b && not (clear frozen (unit_start begins u) (unit_end slots units begins u))) (lt-ltb u units h))
 

@@ -1,4 +1,5 @@
 -- The draws written one by one are those of the way back. Assumes nothing.
+use Rattle.std.specs.Prelude.{Result, Ok, Err}
 use mathlib.Core.Path.{◌≡◌, refl, sym, ap, ap₂, subst, ◌∙◌}
 use mathlib.Core.Bool.{Bool, true, false, cond, not}
 use mathlib.Core.List.{List, [], ◌∷◌, map, map-append}
@@ -150,38 +151,38 @@ module _ (P : Plan) (avail : List ℕ) (units : ℕ) (begins frozen a o : List �
   module _ (f : Refusal) (e : f ≡ refusal_of (way_row P avail units begins frozen a o D ks fs ss)) where
     abbrev by : Refusal → ℕ → Outcome
     by r u =
-        cond (eqb r.number 0) (cond (ltb u units) (way_of (way.NoWay u) ks fs ss) (draws_written (back B a o) ks fs ss))
-        (way_of (way.Refused r) ks fs ss)
+        cond (eqb r.number 0) (cond (ltb u units) (way_of (Ok (way.NoWay u)) ks fs ss) (draws_written (back B a o) ks fs ss))
+        (way_of (Err r) ks fs ss)
 
     ends_as : (y : Outcome) → result ≡ y → Ended result y.answer y.draws y.firsts y.seconds
     ends_as y q = subst (λ (x : Outcome). Ended x y.answer y.draws y.firsts y.seconds) (sym q)
         record { said = refl; draws = refl; firsts = refl; seconds = refl }
 
-    pub way-refused : (f.number ≡ 0 → ⊥) → Ended result (way.Refused f) ks fs ss
+    pub way-refused : (f.number ≡ 0 → ⊥) → Ended result (Err f) ks fs ss
     unfolding way_back_of way_of
     way-refused n =
-        ends_as (way_of (way.Refused f) ks fs ss)
+        ends_as (way_of (Err f) ks fs ss)
         (ap (λ (r : Refusal). by r (first_in_way B a o)) (sym e)
-        ∙ ap (λ (b : Bool). cond b (cond (ltb (first_in_way B a o) units) (way_of (way.NoWay (first_in_way B a o)) ks fs ss)
-        (draws_written (back B a o) ks fs ss)) (way_of (way.Refused f) ks fs ss)) (ne_eqb _ 0 n))
+        ∙ ap (λ (b : Bool). cond b (cond (ltb (first_in_way B a o) units) (way_of (Ok (way.NoWay (first_in_way B a o))) ks fs ss)
+        (draws_written (back B a o) ks fs ss)) (way_of (Err f) ks fs ss)) (ne_eqb _ 0 n))
 
     module _ (z : f.number ≡ 0) (u : ℕ) (eu : u ≡ first_fail units (λ v. not (stands_in_way P.slots units begins frozen a o v))) where
       is-first : u ≡ first_in_way B a o
       unfolding first_in_way in_the_way differs unowned owner_of stands_in_way changed
       is-first = eu
 
-      is-by : result ≡ cond (ltb u units) (way_of (way.NoWay u) ks fs ss) (draws_written (back B a o) ks fs ss)
+      is-by : result ≡ cond (ltb u units) (way_of (Ok (way.NoWay u)) ks fs ss) (draws_written (back B a o) ks fs ss)
       unfolding way_back_of
       is-by =
           ap₂ by (sym e) (sym is-first)
-          ∙ ap (λ (b : Bool). cond b (cond (ltb u units) (way_of (way.NoWay u) ks fs ss) (draws_written (back B a o) ks fs ss))
-          (way_of (way.Refused f) ks fs ss)) (eq-eqb _ 0 z)
+          ∙ ap (λ (b : Bool). cond b (cond (ltb u units) (way_of (Ok (way.NoWay u)) ks fs ss) (draws_written (back B a o) ks fs ss))
+          (way_of (Err f) ks fs ss)) (eq-eqb _ 0 z)
 
-      pub way-none : u < units → Ended result (way.NoWay u) ks fs ss
+      pub way-none : u < units → Ended result (Ok (way.NoWay u)) ks fs ss
       unfolding way_of
       way-none h =
-          ends_as (way_of (way.NoWay u) ks fs ss)
-          (is-by ∙ ap (λ (b : Bool). cond b (way_of (way.NoWay u) ks fs ss) (draws_written (back B a o) ks fs ss)) (lt-ltb u units h))
+          ends_as (way_of (Ok (way.NoWay u)) ks fs ss)
+          (is-by ∙ ap (λ (b : Bool). cond b (way_of (Ok (way.NoWay u)) ks fs ss) (draws_written (back B a o) ks fs ss)) (lt-ltb u units h))
 
       module _ (h : units ≤ u) (fits : List ℕ) (F : FitsRight P.people P.slots units avail begins fits) (n : ℕ) (ks' fs' ss' : List ℕ)
           (W : Wrote begins fits a o units n ks fs ss ks' fs' ss') where
@@ -210,13 +211,14 @@ module _ (P : Plan) (avail : List ℕ) (units : ℕ) (begins frozen a o : List �
         length-is : length (back B a o) ≡ n
         length-is = ap length back_is ∙ length-map U (back_draw B a) ∙ sym W.number
 
-        pub way-written : Ended result (way.Draws n) ks' fs' ss'
+        pub way-written : Ended result (Ok (way.Draws n)) ks' fs' ss'
         unfolding draws_written way_of
         way-written =
-            let q = is-by ∙ ap (λ (b : Bool). cond b (way_of (way.NoWay u) ks fs ss) (draws_written (back B a o) ks fs ss)) (le-ltb u units h) in
-            subst (λ (x : Outcome). Ended x (way.Draws n) ks' fs' ss') (sym q)
+            let q =
+            is-by ∙ ap (λ (b : Bool). cond b (way_of (Ok (way.NoWay u)) ks fs ss) (draws_written (back B a o) ks fs ss)) (le-ltb u units h) in
+            subst (λ (x : Outcome). Ended x (Ok (way.Draws n)) ks' fs' ss') (sym q)
             record {
-              said = ap {B = Way} (λ (k : ℕ). way.Draws k) (sym length-is);
+              said = ap {B = Result Way Refusal} (λ (k : ℕ). Ok (way.Draws k)) (sym length-is);
               draws = W.draws ∙ ap (λ (l : List ℕ). onto l ks) (sym kinds-are);
               firsts = W.firsts ∙ ap (λ (l : List ℕ). onto l fs) (sym firsts-are);
               seconds = W.seconds ∙ ap (λ (l : List ℕ). onto l ss) (sym seconds-are);

@@ -1,6 +1,7 @@
 -- What a caller is answered of a way back, and what the three lent columns hold then. Assumes nothing.
-use Rattle.std.specs.Prelude.{◌≡◌, Bool, true, cond, not, ◌&&◌, ◌||◌, List, [], ◌∷◌, ◌++◌, ◌⊎◌, ℕ, eqb, ltb, leb, length}
+use Rattle.std.specs.Prelude.{◌≡◌, Bool, true, cond, not, ◌&&◌, ◌||◌, List, [], ◌∷◌, ◌++◌, ◌⊎◌, ℕ, eqb, ltb, leb, length, Result, Ok, Err}
 use Rattle.paper.specs.Limits.{set_words, nobody, Test, test_in, test}
+use Rattle.paper.specs.declared.Refusal.{Refusal}
 use Rattle.paper.specs.Rows.{refusal_of}
 use Rattle.paper.specs.Count.{all, onto}
 use Rattle.owners.specs.Derived.{Plan, Derived}
@@ -48,29 +49,29 @@ first_in_way B a o = first_fail B.units (λ u. not (in_the_way B a o u))
 
 -- what is answered, and the columns at exit
 pub record Outcome : Type 0 where
-  pub answer : Way
+  pub answer : Result Way Refusal
   pub draws : List ℕ
   pub firsts : List ℕ
   pub seconds : List ℕ
 
 -- a refusal, or a unit in the way, changes nothing; else the draws, and what lies past them stays
-unfoldable pub way_of : Way → List ℕ → List ℕ → List ℕ → Outcome
+unfoldable pub way_of : Result Way Refusal → List ℕ → List ℕ → List ℕ → Outcome
 way_of r ks fs ss = record { answer = r; draws = ks; firsts = fs; seconds = ss }
 
 unfoldable pub draws_written : List Draw → List ℕ → List ℕ → List ℕ → Outcome
 draws_written ds ks fs ss =
-    way_of (way.Draws (length ds)) (onto (kinds_of ds) ks) (onto (firsts_of ds) fs) (onto (seconds_of ds) ss)
+    way_of (Ok (way.Draws (length ds))) (onto (kinds_of ds) ks) (onto (firsts_of ds) fs) (onto (seconds_of ds) ss)
 
 unfoldable pub way_back_of : Plan → List ℕ → ℕ → List ℕ → List ℕ → List ℕ → List ℕ → Derived → List ℕ → List ℕ → List ℕ → Outcome
 way_back_of P avail units begins frozen a o D ks fs ss =
     let B = board_of P.people P.slots units avail begins frozen in
     let f = refusal_of (way_row P avail units begins frozen a o D ks fs ss) in
     cond (eqb f.number 0)
-    (cond (ltb (first_in_way B a o) units) (way_of (way.NoWay (first_in_way B a o)) ks fs ss) (draws_written (back B a o) ks fs ss))
-    (way_of (way.Refused f) ks fs ss)
+    (cond (ltb (first_in_way B a o) units) (way_of (Ok (way.NoWay (first_in_way B a o))) ks fs ss) (draws_written (back B a o) ks fs ss))
+    (way_of (Err f) ks fs ss)
 
 -- what is answered and what is left are those of the outcome
-pub record Ended (y : Outcome) (r : Way) (ks fs ss : List ℕ) : Type 0 where
+pub record Ended (y : Outcome) (r : Result Way Refusal) (ks fs ss : List ℕ) : Type 0 where
   pub said : r ≡ y.answer
   pub draws : ks ≡ y.draws
   pub firsts : fs ≡ y.firsts

@@ -1,18 +1,16 @@
 -- What private functions of wayback alone cite: owners of units by their starts, and how far the columns are written. Assumes nothing.
-use Rattle.std.specs.Prelude.{◌≡◌, Bool, true, false, not, ◌&&◌, ◌||◌, List, map, ℕ, ◌≤◌, eqb, length, get_or}
+use Rattle.std.specs.Prelude.{◌≡◌, Bool, true, false, not, ◌&&◌, ◌||◌, List, map, ℕ, ◌≤◌, eqb, length, get_or, Option, Some, None, Result, Ok, Err}
 use Rattle.paper.specs.Limits.{nobody}
 use Rattle.paper.specs.Count.{among, count, onto}
-use Rattle.slotset.specs.declared.Found.{Found}
-use Rattle.slotset.specs.declared.Found.TheVariants as found
 use Rattle.units.specs.Units.{unit_start}
 use Rattle.units.specs.Domains.{in_mask}
 use Rattle.rota.specs.Lent.{frozen_unit}
 
 -- a search found something, or was refused
-abbrev pub found_one : Found → Bool
-found_one (found.At i) = true
-found_one found.Nothing = false
-found_one (found.Refused n) = true
+abbrev pub found_one : Result (Option ℕ) ℕ → Bool
+found_one (Ok (Some i)) = true
+found_one (Ok None) = false
+found_one (Err n) = true
 
 -- the owner of a unit is that of its first slot
 abbrev pub unit_owner : List ℕ → List ℕ → ℕ → ℕ

@@ -7,10 +7,9 @@ mod writing;
 
 pub use ways::way_back;
 
-// What a way back comes to: that many draws, no way by reassigns on account of a unit, or a refusal.
+// What a way back comes to: that many draws, or no way by reassigns on account of a unit.
 #[derive(Clone, Copy)]
 pub enum Way {
     Draws(usize),
     NoWay(usize),
-    Refused(paper::Refusal),
 }

@@ -5,16 +5,14 @@ ghost use Rattle.rota.specs.Lent.{frozen_unit};
 ghost use Rattle.rota.specs.Ready.{UnitRoom};
 ghost use Rattle.wayback.specs.Inside.{found_one, unit_owner, stands_in_way};
 
-use slotset::Found;
-
 // Whether a search found something, or was refused.
-fn found_one(f: Found) -> bool
+fn found_one(f: Result<Option<usize>, u8>) -> bool
     ensures { result ≡ found_one f }
 {
     match f {
-        Found::At(_) => true,
-        Found::Nothing => false,
-        Found::Refused(_) => true,
+        Ok(Some(_)) => true,
+        Ok(None) => false,
+        Err(_) => true,
     }
 }
 
@@ -73,12 +71,9 @@ pub(crate) fn first_in_way(
     requires unit_room { UnitRoom slots units begins.now }
     ensures { result ≡ first_fail units (λ u. not (stands_in_way slots units begins.now frozen.now remembered.now owners.now u)) }
 {
-    let mut u: usize = 0;
-    while u < units {
+    for u in 0..units {
         if stands_in_way(slots, units, begins, frozen, remembered, owners, u) {
             return u;
-        } else {
-            u += 1;
         }
     }
     units

@@ -140,7 +140,7 @@ pub fn way_back(
     draws: &mut [u16],
     firsts: &mut [u16],
     seconds: &mut [u16],
-) -> Way
+) -> Result<Way, Refusal>
     ensures { Ended (way_back_of (plan people slots starts.now ends.now) avail.now units begins.now frozen.now remembered.now owners.now (derived sets.now minutes.now totals.now) draws.old firsts.old seconds.old) result draws.new firsts.new
         seconds.new }
 {
@@ -151,13 +151,13 @@ pub fn way_back(
     if f.number == 0 {
         let u = first_in_way(slots, units, begins, frozen, remembered, owners);
         if u < units {
-            return Way::NoWay(u);
+            return Ok(Way::NoWay(u));
         }
         let mut fits = [0u32; 1024];
         units::unit_domains(people, slots, units, avail, begins, &mut fits);
-        return Way::Draws(write_draws(
+        return Ok(Way::Draws(write_draws(
             units, begins, &fits, remembered, owners, draws, firsts, seconds,
-        ));
+        )));
     }
-    Way::Refused(f)
+    Err(f)
 }

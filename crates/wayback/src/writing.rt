@@ -10,11 +10,7 @@ use crate::search::owner_of;
 fn in_mask(mask: u32, person: usize) -> bool
     ensures { result ≡ in_mask mask person }
 {
-    if person < 32 {
-        (mask >> person) % 2 == 1
-    } else {
-        false
-    }
+    person < 32 && (mask >> person) % 2 == 1
 }
 
 // The place of a person in a mask: how many stand in it before them.
@@ -22,13 +18,9 @@ fn place_in(mask: u32, person: u8) -> u16
     ensures { result ≡ count person (in_mask mask) }
 {
     let mut n: u16 = 0;
-    let mut q: u8 = 0;
-    while q < person {
+    for q in 0..person {
         if in_mask(mask, q as usize) {
             n += 1;
-            q += 1;
-        } else {
-            q += 1;
         }
     }
     n
@@ -49,17 +41,13 @@ pub(crate) fn write_draws(
     ensures { Wrote begins.now fits.now remembered.now owners.now units result draws.old firsts.old seconds.old draws.new firsts.new seconds.new }
 {
     let mut n: usize = 0;
-    let mut u: usize = 0;
-    while u < units {
+    for u in 0..units {
         let was = owner_of(begins, remembered, u);
-        if was == owner_of(begins, owners, u) {
-            u += 1;
-        } else {
+        if was != owner_of(begins, owners, u) {
             draws[n] = 0;
             firsts[n] = u as u16;
             seconds[n] = place_in(fits[u], was);
             n += 1;
-            u += 1;
         }
     }
     n

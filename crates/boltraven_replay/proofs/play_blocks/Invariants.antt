@@ -1,5 +1,5 @@
 -- `boltraven_replay::play_blocks` meets its contract: the window lies in the buffer, and no column changes its length. Assumes nothing.
-use Rattle.std.proofs.Common.{◌≡◌, ◌-◌, ◌≤◌, length}
+use Rattle.std.proofs.Common.{◌≡◌, ◌≤◌, length}
 use Rattle.boltraven_replay.proofs.play_blocks.Given as goal
 
 abbrev pub invariant-loop-block : goal.invariant-loop-block
@@ -19,6 +19,3 @@ invariant-loop-block g l = record {
   totals-room : length l.totals ≡ 2;
   out-room : length l.out ≡ 65536;
 }
-
-abbrev pub decreases-loop-block : goal.decreases-loop-block
-decreases-loop-block g l = 65536 - l.block

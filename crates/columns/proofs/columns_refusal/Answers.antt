@@ -7,7 +7,6 @@ use Rattle.columns.proofs.columns_refusal.Goals as goal
 pub returns : goal.returns
 unfolding columns_row
 returns c =
-    let b = c in
-    checked _ refl b.accepted.ensures
+    checked _ refl c.accepted.ensures
     (link c.check_slots-f.ensures (link c.check-f.ensures (link c.check-f-2.ensures
     (link c.check_words.ensures ends))))

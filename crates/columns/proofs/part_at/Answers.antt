@@ -9,20 +9,10 @@ next_change-upto-requires c =
     let pre = c.requires in
     (pre.sound.few, pre.sound.flags, pre.slot_lt_slots)
 
-pub slice_bounds-result-end : goal.slice_bounds-result-end
-slice_bounds-result-end c =
-    let pre = c.requires in
-    omega (arith, pre.sound.room, c.next_change-upto.ensures.2)
-
 pub returns-then-is_frozen : goal.returns-then-is_frozen
 returns-then-is_frozen c =
     part-is _ _ _ _ _ _ _ (sym c.if-is_frozen.true ∙ c.is_frozen.ensures) _
     c.next_change-upto.ensures.0 (refl, omega arith, refl)
-
-pub slice_bounds-result-end-2 : goal.slice_bounds-result-end-2
-slice_bounds-result-end-2 c =
-    let pre = c.requires in
-    omega (arith, pre.sound.room, pre.sound.same, c.next_change-upto.ensures.2)
 
 pub returns : goal.returns
 returns c =

@@ -1,59 +1,48 @@
 -- `columns::show_parts` meets its contract. Assumes nothing.
-use mathlib.Core.Path.{◌≡◌, refl, sym, ap, ◌∙◌}
-use mathlib.Core.List.{List}
-use Prim.Native.Nat.{ℕ}
+use mathlib.Core.Path.{◌≡◌, sym, ap, ◌∙◌}
+use Prim.Native.Nat.{ℕ, ◌+◌, ◌≤◌, ◌<◌}
 use native.Mathlib.Omega.{arith}
-use lib.ListN.{length}
+use lib.ListN.{length, length-take, length-drop}
 use Rattle.paper.specs.Count.{over}
-use Rattle.paper.proofs.Count.{over_none, length_over}
+use Rattle.paper.proofs.Count.{over_none}
 use Rattle.columns.specs.Publishing.{owner_read}
 use Rattle.columns.proofs.Walk.{part-ends, part-more}
 use borrow.Author.Rules.{rules}
 use Rattle.columns.proofs.show_parts.Goals as goal
+use Rattle.columns.proofs.show_parts.Goals.{After-part_at-part}
+
+-- the part found starts where the loop stands and ends within the slots
+ends : (c : After-part_at-part) → (c.loop-at.at < c.loop-at.at + length c.part_at-part.result.now) × (c.loop-at.at + length c.part_at-part.result.now ≤ c.args.slots)
+ends c = part-ends _ _ _ _ c.requires.sound _ c.loop-at-test.true _ c.part_at-part.ensures.entries
+
+pub slice_bounds-copy_from_slice-end : goal.slice_bounds-copy_from_slice-end
+slice_bounds-copy_from_slice-end c =
+    omega (arith, (ends (goal.at.slice_bounds-copy_from_slice-end c).After-part_at-part).1, c.requires.slots_in_bounds, c.loop-at.auto.shown)
 
 pub loop-at-init : goal.loop-at-init
-loop-at-init c = (search rules, sym (over_none _ _), refl)
+loop-at-init c = (search rules, sym (over_none _ _))
 
 pub part_at-part-requires : goal.part_at-part-requires
 part_at-part-requires c = record { sound = c.requires.sound; slot_lt_slots = c.loop-at-test.true }
 
-pub write_part-requires : goal.write_part-requires
-write_part-requires c =
-    let pre = c.requires in
-    let E = part-ends _ _ _ _ pre.sound _ c.loop-at-test.true _ c.part_at-part.ensures.entries in
-    omega (arith, E.1, pre.slots_in_bounds, c.loop-at.invariant.2)
-
-pub overflow_add-at : goal.overflow_add-at
-overflow_add-at c =
-    let pre = c.requires in
-    let below = c.loop-at-test.true in
-    let E = part-ends _ _ _ _ pre.sound _ below _ c.part_at-part.ensures.entries in
-    omega (arith, E.1, pre.sound.few)
+pub copy_from_slice-requires : goal.copy_from_slice-requires
+copy_from_slice-requires c =
+    let e = ends (goal.at.copy_from_slice-requires c).After-part_at-part in
+    simp (length-take, length-drop) (omega (arith, c.requires.slots_in_bounds, c.loop-at.auto.shown))
 
 pub loop-at-smaller : goal.loop-at-smaller
-loop-at-smaller c =
-    let pre = c.requires in
-    let below = c.loop-at-test.true in
-    let E = part-ends _ _ _ _ pre.sound _ below _ c.part_at-part.ensures.entries in
-    omega (arith, E.0, E.1)
+loop-at-smaller c = let e = ends (goal.at.loop-at-smaller c).After-part_at-part in omega arith
 
 pub loop-at-preserved : goal.loop-at-preserved
 loop-at-preserved c =
-    let pre = c.requires in
-    let below = c.loop-at-test.true in
-    let E = part-ends _ _ _ _ pre.sound _ below _ c.part_at-part.ensures.entries in
-    let at-loop = c.loop-at in
-    let so = c.write_part.ensures
-    ∙ part-more _ _ _ _ pre.sound _ below _ c.part_at-part.ensures.entries _ _ at-loop.invariant.1 in
-    (E.1, so, ap (λ (l : List ℕ). length l) so ∙ length_over _ _ _)
-
-pub shape_of-shown : goal.shape_of-shown
-shape_of-shown c = c.loop-at.invariant.2
+    let e = ends (goal.at.loop-at-preserved c).After-part_at-part in
+    let room = c.requires.slots_in_bounds in (
+      e.1,
+      part-more _ _ _ _ c.requires.sound _ c.loop-at-test.true _ c.part_at-part.ensures.entries _ _ _ _ (omega arith) c.copy_from_slice.ensures.after c.loop-at.invariant.1 room,
+    )
 
 pub returns : goal.returns
 returns c =
-    let at-loop = c.loop-at in
-    let at-args = c.args in
-    let q : at-loop.at ≡ at-args.slots = omega arith in
-    at-loop.invariant.1
-    ∙ ap (λ (n : ℕ). over (owner_read at-args.published.now at-args.draft.now at-args.frozen.now) n at-args.shown.now) q
+    let q : c.loop-at.at ≡ c.args.slots = omega arith in
+    c.loop-at.invariant.1
+    ∙ ap (λ (n : ℕ). over (owner_read c.args.published.now c.args.draft.now c.args.frozen.now) n c.args.shown.now) q

@@ -1,11 +1,9 @@
 -- `program::within` meets its contract. Assumes nothing.
-use mathlib.Core.Path.{sym}
-use native.Mathlib.Nat.{le_refl}
+use Rattle.std.proofs.Common.{◌≤◌, length, sym, arith}
 use lib.Seq.{length-take-le}
 use Rattle.program.proofs.within.Goals as goal
 
-pub returns-then-n-buf : goal.returns-then-n-buf
-returns-then-n-buf c = (c.if-n-buf.true, sym (length-take-le _ _ c.if-n-buf.true))
-
 pub returns : goal.returns
-returns c = (le_refl _, sym (length-take-le _ c.args.buf.now (le_refl _)))
+returns c =
+    let h : c.min.result ≤ length c.args.buf.now = omega arith in
+    (h, sym (length-take-le _ _ h))

@@ -1,19 +1,16 @@
 -- `stored::byte_after` meets its contract. Assumes nothing.
-use Rattle.std.proofs.Common.{◌+◌, sym, arith}
+use Rattle.std.proofs.Common.{◌+◌, ◌≤◌, length, sym, arith}
 use lib.ListN.{get_or-eq_default}
+use Rattle.stored.proofs.byte_after.Goals.{else-at-b-via-then-at-b+else-k-b, else-at-b-via-else-at-b}
 use Rattle.stored.proofs.byte_after.Goals as goal
 
 pub returns-then-k-b : goal.returns-then-k-b
-returns-then-k-b c =
-    let a = c.args in
-    (c.wide.ensures, omega (arith, c.wide.ensures, c.shared_slice_known-then-k-b-1.given (a.at + a.k)))
-
-pub returns-then-at-b : goal.returns-then-at-b
-returns-then-at-b c =
-    let a = c.args in
-    (sym (get_or-eq_default a.b.now 0 {n = a.at + a.k} (omega (arith, c.if-k-b.false, c.if-at-b.true))), omega arith)
+returns-then-k-b c = (c.from.ensures, omega (arith, c.from.ensures, c.type_inv.b (c.args.at + c.args.k)))
 
 pub returns : goal.returns
 returns c =
-    let a = c.args in
-    (sym (get_or-eq_default a.b.now 0 {n = a.at + a.k} (omega (arith, c.if-at-b.false))), omega arith)
+    let past : length c.args.b.now ≤ c.args.at + c.args.k = elim c.else-at-b.branch [
+      | else-at-b-via-then-at-b+else-k-b w ↦ omega arith
+      | else-at-b-via-else-at-b w ↦ omega arith
+    ] in
+    (sym (get_or-eq_default c.args.b.now 0 past), omega arith)

@@ -1,5 +1,5 @@
 -- `stored_replay::same_blocks` meets its contract: no column changes its length. Assumes nothing.
-use Rattle.std.proofs.Common.{◌≡◌, ◌-◌, length}
+use Rattle.std.proofs.Common.{◌≡◌, length}
 use Rattle.stored_replay.proofs.same_blocks.Given as goal
 
 abbrev pub invariant-loop-block : goal.invariant-loop-block
@@ -15,6 +15,3 @@ invariant-loop-block l = record {
   minutes-room : length l.minutes ≡ 32;
   totals-room : length l.totals ≡ 2;
 }
-
-abbrev pub decreases-loop-block : goal.decreases-loop-block
-decreases-loop-block l = 65536 - l.block

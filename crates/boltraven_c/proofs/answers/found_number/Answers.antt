@@ -3,5 +3,5 @@ use mathlib.Core.Path.{sym, ap, ◌∙◌}
 use Rattle.boltraven_c.specs.Numbers.{found_number}
 use Rattle.boltraven_c.proofs.answers.found_number.Goals as goal
 
-pub returns-in-Refused : goal.returns-in-Refused
-returns-in-Refused c = c.refused.ensures ∙ sym (ap found_number c.in-Refused.is)
+pub returns-in-Err : goal.returns-in-Err
+returns-in-Err c = c.refused.ensures ∙ sym (ap found_number c.in-Err.is)

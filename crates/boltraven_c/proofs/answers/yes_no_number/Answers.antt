@@ -3,5 +3,5 @@ use mathlib.Core.Path.{sym, ap, ◌∙◌}
 use Rattle.boltraven_c.specs.Numbers.{yes_no_number}
 use Rattle.boltraven_c.proofs.answers.yes_no_number.Goals as goal
 
-pub returns-in-Refused : goal.returns-in-Refused
-returns-in-Refused c = c.refused.ensures ∙ sym (ap yes_no_number c.in-Refused.is)
+pub returns-in-Err : goal.returns-in-Err
+returns-in-Err c = c.refused.ensures ∙ sym (ap yes_no_number c.in-Err.is)

@@ -9,13 +9,13 @@ pub loop-k-init : goal.loop-k-init
 loop-k-init c = (column-none _ _ _ _, omega arith)
 
 pub overflow_mul-k : goal.overflow_mul-k
-overflow_mul-k c = let p = c in omega (arith, p.requires.1 c.loop-k.k (omega arith))
+overflow_mul-k c = omega (arith, c.requires.1 c.loop-k.k (omega arith))
 
 pub overflow_add-at : goal.overflow_add-at
-overflow_add-at c = let p = c in omega (arith, p.requires.1 c.loop-k.k (omega arith))
+overflow_add-at c = omega (arith, c.requires.1 c.loop-k.k (omega arith))
 
 pub field-requires : goal.field-requires
-field-requires c = let p = c in omega (arith, p.requires.1 c.loop-k.k (omega arith))
+field-requires c = omega (arith, c.requires.1 c.loop-k.k (omega arith))
 
 pub overflow_cast-out : goal.overflow_cast-out
 overflow_cast-out c = omega (arith, c.field.ensures.1)

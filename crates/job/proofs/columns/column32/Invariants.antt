@@ -1,11 +1,8 @@
 -- `job::columns::column32` meets its contract. The invariant: the first k numbers are read. Assumes nothing.
 use mathlib.Core.Path.{◌≡◌}
-use Prim.Native.Nat.{◌-◌, ◌≤◌}
+use Prim.Native.Nat.{◌≤◌}
 use Rattle.job.specs.Columns.{column}
 use Rattle.job.proofs.columns.column32.Given as goal
 
 abbrev pub invariant-loop-k : goal.invariant-loop-k
 invariant-loop-k l = (l.out ≡ column 4 l.s l.at l.stride l.k) × (l.k ≤ l.n)
-
-abbrev pub decreases-loop-k : goal.decreases-loop-k
-decreases-loop-k l = l.n - l.k

@@ -1,5 +1,4 @@
 -- `job::columns::column_f64` meets its contract. The invariant: the first k patterns are read. Assumes nothing.
--- Below, c_n is what is known N places before c.
 use mathlib.Core.Path.{◌≡◌, ap, ◌∙◌}
 use native.Mathlib.Omega.{arith}
 use lib.Ieee.{binary64, of_bits}
@@ -11,13 +10,13 @@ pub loop-k-init : goal.loop-k-init
 loop-k-init c = (floats-none _ _ _, omega arith)
 
 pub overflow_mul-k : goal.overflow_mul-k
-overflow_mul-k c = let p = c in omega (arith, p.requires.1 c.loop-k.k (omega arith))
+overflow_mul-k c = omega (arith, c.requires.1 c.loop-k.k (omega arith))
 
 pub overflow_add-at : goal.overflow_add-at
-overflow_add-at c = let p = c in omega (arith, p.requires.1 c.loop-k.k (omega arith))
+overflow_add-at c = omega (arith, c.requires.1 c.loop-k.k (omega arith))
 
 pub field-requires : goal.field-requires
-field-requires c = let p = c in omega (arith, p.requires.1 c.loop-k.k (omega arith))
+field-requires c = omega (arith, c.requires.1 c.loop-k.k (omega arith))
 
 pub offset_bounds-out-k : goal.offset_bounds-out-k
 offset_bounds-out-k c = omega (arith, c.requires.0)
@@ -27,8 +26,7 @@ bounds-out-k c = omega (arith, c.requires.0)
 
 pub loop-k-preserved : goal.loop-k-preserved
 loop-k-preserved c =
-    let c3 = c in
-    (floats-more _ _ _ _ _ _ c3.loop-k.invariant.0 (c.float_of.ensures ∙ ap (of_bits binary64) c.field.ensures.0), omega arith)
+    (floats-more _ _ _ _ _ _ c.loop-k.invariant.0 (c.float_of.ensures ∙ ap (of_bits binary64) c.field.ensures.0), omega arith)
 
 pub returns : goal.returns
 returns c =

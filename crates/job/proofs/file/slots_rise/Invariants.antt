@@ -1,5 +1,4 @@
 -- `job::file::slots_rise` meets its contract. The invariant: the slots rise up to record k. Assumes nothing.
--- Below, c_n is what is known N places before c.
 use mathlib.Core.Path.{◌≡◌}
 use mathlib.Core.Bool.{true}
 use Prim.Native.Nat.{◌+◌, ◌-◌, ◌≤◌}
@@ -10,6 +9,3 @@ use Rattle.job.proofs.file.slots_rise.Given as goal
 
 abbrev pub invariant-loop-k : goal.invariant-loop-k
 invariant-loop-k l = (all l.k (λ j. ltb (owner_slot l.s l.at j) (owner_slot l.s l.at (j + 1))) ≡ true) × (l.k ≤ l.n - 1)
-
-abbrev pub decreases-loop-k : goal.decreases-loop-k
-decreases-loop-k l = l.n - l.k

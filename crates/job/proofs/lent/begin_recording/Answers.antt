@@ -6,28 +6,24 @@ use Rattle.job.proofs.lent.begin_recording.Goals as goal
 
 pub lay_ready-requires : goal.lay_ready-requires
 lay_ready-requires c =
-    let at = c in
-    sym at.ready_room-board.ensures
-    ∙ (begun-room _ _ _ _ _ at.both.ensures at.begin-b.ensures c.if-refusal-eq0.true).0
+    sym c.ready_room-board.ensures
+    ∙ (begun-room _ _ _ _ _ c.both.ensures c.begin-b.ensures c.if-refusal-eq0.true).0
 
 pub lay_rota-requires : goal.lay_rota-requires
 lay_rota-requires c =
-    let at = c in
-    sym at.rota_room-rota.ensures
-    ∙ (begun-room _ _ at.ready_room-board.result _ _ at.both.ensures at.begin-b.ensures c.if-refusal-eq0.true).1
+    sym c.rota_room-rota.ensures
+    ∙ (begun-room _ _ c.ready_room-board.result _ _ c.both.ensures c.begin-b.ensures c.if-refusal-eq0.true).1
 
 pub returns-then-refusal-eq0 : goal.returns-then-refusal-eq0
 unfolding ready_room
 returns-then-refusal-eq0 c =
-    let at = c in
-    lent_laid _ _ _ _ _ _ at.ready_room-board.ensures at.rota_room-rota.ensures
-    at.both.ensures at.begin-b.ensures c.if-refusal-eq0.true _ _ _
+    lent_laid _ _ _ _ _ _ c.ready_room-board.ensures c.rota_room-rota.ensures
+    c.both.ensures c.begin-b.ensures c.if-refusal-eq0.true _ _ _
     c.lay_ready.ensures c.lay_rota.ensures.owners_after
     c.lay_rota.ensures.totals_after
 
 pub returns : goal.returns
 unfolding ready_room
 returns c =
-    let at = c in
-    lent-kept _ _ _ _ _ _ at.ready_room-board.ensures at.rota_room-rota.ensures
-    at.both.ensures at.begin-b.ensures c.if-refusal-eq0.false
+    lent-kept _ _ _ _ _ _ c.ready_room-board.ensures c.rota_room-rota.ensures
+    c.both.ensures c.begin-b.ensures c.if-refusal-eq0.false

@@ -8,8 +8,7 @@ use Rattle.job.proofs.lent.ready_room.Goals as goal
 pub returns : goal.returns
 unfolding ready_room
 returns c =
-    let c4 = c in
-    let a = c4.args in
+    let a = c.args in
     and_then _ (leb 1024 (length a.starts.now)) c.both.ensures (and_then _ (leb 1024 (length a.ends.now)) c.both-rest.ensures
     (and_then _ (leb 512 (length a.avail.now)) c.both-words.ensures (and_then _ (leb 1024 (length a.begins.now))
-    c.both-more.ensures c4.both-last.ensures)))
+    c.both-more.ensures c.both-last.ensures)))

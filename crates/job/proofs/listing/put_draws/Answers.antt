@@ -1,5 +1,4 @@
 -- `job::listing::put_draws` meets its contract. The invariant: the lines of the first k draws are written. Assumes nothing.
--- Below, c_n is what is known N places before c.
 use native.Mathlib.Omega.{arith}
 use Rattle.job.specs.Listing.{draw_at}
 use Rattle.job.proofs.Texts.{going_start, going-room, going_more, going_end}
@@ -14,16 +13,12 @@ bounds-answers-k c = omega (arith, c.requires.n_in_bounds)
 pub put_draw-next-requires : goal.put_draw-next-requires
 unfolding draw_at
 put_draw-next-requires c =
-    let c3 = c in
-    let s = c3 in
-    going-room c3.loop-k.invariant.0 s.args.n (omega arith) s.requires.n_in_bounds_2
+    going-room c.loop-k.invariant.0 c.args.n (omega arith) c.requires.n_in_bounds_2
 
 pub loop-k-preserved : goal.loop-k-preserved
 unfolding draw_at
 loop-k-preserved c =
-    let c6 = c in
-    let s = c6 in
-    (going_more c6.loop-k.invariant.0 c.put_draw-next.ensures s.args.n (omega arith) s.requires.n_in_bounds_2, omega arith)
+    (going_more c.loop-k.invariant.0 c.put_draw-next.ensures c.args.n (omega arith) c.requires.n_in_bounds_2, omega arith)
 
 pub shape_of-out : goal.shape_of-out
 shape_of-out c = c.loop-k.invariant.0.same

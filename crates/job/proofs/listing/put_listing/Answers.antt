@@ -9,22 +9,19 @@ use Rattle.job.proofs.listing.put_listing.Goals as goal
 
 pub put_lines-requires : goal.put_lines-requires
 put_lines-requires c =
-    let c2 = c in
-    let c5 = c2 in
-    let s = c5 in
-    let a = s.args in
+    let a = c.args in
     let L = listed a.slots a.starts.now a.ends.now a.owners.now a.people a.minutes.now a.targets.now a.draws
     a.answers.now a.uncovered in
     let u : Fits w64 a.uncovered = search rules in
     let F : Fields L = record {
-      slots-few = s.requires.slots_bound.0;
-      people-few = s.requires.slots_bound.1;
-      draws-few = s.requires.slots_bound.2;
-      starts = λ k h. omega (arith, c5.shared_slice_known-1.given k);
-      ends = λ k h. omega (arith, c2.shared_slice_known-2-1.given k);
-      owners = λ k h. omega (arith, c2.shared_slice_known-3-1.given k);
-      minutes = λ p h. omega (arith, c2.shared_slice_known-4-1.given p);
-      targets = s.requires.by_index;
+      slots-few = c.requires.slots_bound.0;
+      people-few = c.requires.slots_bound.1;
+      draws-few = c.requires.slots_bound.2;
+      starts = λ k h. omega (arith, c.shared_slice_known-1.given k);
+      ends = λ k h. omega (arith, c.shared_slice_known-2-1.given k);
+      owners = λ k h. omega (arith, c.shared_slice_known-3-1.given k);
+      minutes = λ p h. omega (arith, c.shared_slice_known-4-1.given p);
+      targets = c.requires.by_index;
       uncovered = omega (arith, u.fits);
     } in
-    record { slots_in_bounds = s.requires.slots_in_bounds; people_in_bounds = s.requires.people_in_bounds; uncovered_in_bounds = omega (arith, listing-fits L F, s.requires.slots_bound) }
+    record { slots_in_bounds = c.requires.slots_in_bounds; people_in_bounds = c.requires.people_in_bounds; uncovered_in_bounds = omega (arith, listing-fits L F, c.requires.slots_bound) }

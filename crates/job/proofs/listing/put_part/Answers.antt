@@ -7,24 +7,19 @@ use Rattle.job.proofs.listing.put_part.Goals as goal
 pub put_number_then-next-requires : goal.put_number_then-next-requires
 unfolding part_text
 put_number_then-next-requires c =
-    let s = c in
-    let a = s.args in
-    room-first (digits a.part ++ (32 ∷ [])) (place_text a.part a.place a.second) _ s.requires
+    let a = c.args in
+    room-first (digits a.part ++ (32 ∷ [])) (place_text a.part a.place a.second) _ c.requires
 
 pub put_place-requires : goal.put_place-requires
 unfolding part_text
 put_place-requires c =
-    let c3 = c in
-    let s = c3 in
-    let a = s.args in
-    room_next (place_text a.part a.place a.second) c3.put_number_then-next.ensures s.requires
+    let a = c.args in
+    room_next (place_text a.part a.place a.second) c.put_number_then-next.ensures c.requires
 
 pub returns : goal.returns
 unfolding part_text
 returns c =
-    let c6 = c in
-    let s = c6 in
-    wrote-both c6.put_number_then-next.ensures c.put_place.ensures s.requires
+    wrote-both c.put_number_then-next.ensures c.put_place.ensures c.requires
 
 pub shape_of-out : goal.shape_of-out
 unfolding part_text

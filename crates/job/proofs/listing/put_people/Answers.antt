@@ -1,5 +1,4 @@
 -- `job::listing::put_people` meets its contract. The invariant: the lines of the first k people are written. Assumes nothing.
--- Below, c_n is what is known N places before c.
 use borrow.Author.Rules.{rules}
 use native.Mathlib.Omega.{arith}
 use lib.ListN.{length, get_or}
@@ -31,25 +30,21 @@ bounds-minutes-k c = omega (arith, c.requires.n_in_bounds)
 pub put_person-next-requires : goal.put_person-next-requires
 unfolding person_at
 put_person-next-requires c =
-    let c4 = c in
-    let s = c4 in
-    let k = c4.loop-k.k in
-    let z = get_or s.args.targets.now k (pos 0) in
-    let f : SFits w64 (get_or s.args.targets.now k (pos 0)) = search rules in
-    let r = going-room c4.loop-k.invariant.0 s.args.n (omega arith) s.requires.n_in_bounds_2 in
-    omega (arith, r, ap (λ (y : ℤ). length (person_line k (get_or s.args.minutes.now k 0) y)) (to_z-of_z w64 z f))
+    let k = c.loop-k.k in
+    let z = get_or c.args.targets.now k (pos 0) in
+    let f : SFits w64 (get_or c.args.targets.now k (pos 0)) = search rules in
+    let r = going-room c.loop-k.invariant.0 c.args.n (omega arith) c.requires.n_in_bounds_2 in
+    omega (arith, r, ap (λ (y : ℤ). length (person_line k (get_or c.args.minutes.now k 0) y)) (to_z-of_z w64 z f))
 
 pub loop-k-preserved : goal.loop-k-preserved
 unfolding person_at
 loop-k-preserved c =
-    let c7 = c in
-    let s = c7 in
-    let k = c7.loop-k.k in
-    let z = get_or s.args.targets.now k (pos 0) in
-    let f : SFits w64 (get_or s.args.targets.now k (pos 0)) = search rules in (
-      going_more c7.loop-k.invariant.0 (wrote-same (ap (person_line k (get_or s.args.minutes.now k 0)) (to_z-of_z w64 z f))
+    let k = c.loop-k.k in
+    let z = get_or c.args.targets.now k (pos 0) in
+    let f : SFits w64 (get_or c.args.targets.now k (pos 0)) = search rules in (
+      going_more c.loop-k.invariant.0 (wrote-same (ap (person_line k (get_or c.args.minutes.now k 0)) (to_z-of_z w64 z f))
           c.put_person-next.ensures)
-          s.args.n (omega arith) s.requires.n_in_bounds_2,
+          c.args.n (omega arith) c.requires.n_in_bounds_2,
       omega arith,
     )
 

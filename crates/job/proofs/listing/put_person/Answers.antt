@@ -1,5 +1,4 @@
 -- `job::listing::put_person` meets its contract. Assumes nothing.
--- Below, c_n is what is known N places before c.
 use mathlib.Core.List.{List, [], ◌∷◌, ◌++◌}
 use Prim.Native.Nat.{ℕ}
 use native.Mathlib.Omega.{arith}
@@ -22,36 +21,27 @@ from-minutes minutes target = digits minutes ++ (32 ∷ []) ++ from-target targe
 pub put_head-first-requires : goal.put_head-first-requires
 unfolding person_line
 put_head-first-requires c =
-    let s = c in
-    room-first (head_text 80 s.args.p 32) (from-minutes s.args.minutes s.args.target) _ s.requires
+    room-first (head_text 80 c.args.p 32) (from-minutes c.args.minutes c.args.target) _ c.requires
 
 pub put_number_then-second-requires : goal.put_number_then-second-requires
 unfolding person_line
 put_number_then-second-requires c =
-    let c3 = c in
-    let s = c3 in
-    let first = room_next (from-minutes s.args.minutes s.args.target) c3.put_head-first.ensures s.requires in
-    room-first (digits s.args.minutes ++ (32 ∷ [])) (from-target s.args.target) _ first
+    let first = room_next (from-minutes c.args.minutes c.args.target) c.put_head-first.ensures c.requires in
+    room-first (digits c.args.minutes ++ (32 ∷ [])) (from-target c.args.target) _ first
 
 pub put_signed-requires : goal.put_signed-requires
 unfolding person_line
 put_signed-requires c =
-    let c3 = c in
-    let c7 = c3 in
-    let s = c7 in
-    let first = room_next (from-minutes s.args.minutes s.args.target) c7.put_head-first.ensures s.requires in
+    let first = room_next (from-minutes c.args.minutes c.args.target) c.put_head-first.ensures c.requires in
     omega (
       arith,
-      room_next (from-target s.args.target) c3.put_number_then-second.ensures first,
-      ap (λ (z : ℤ). length (from-target z)) (to_z-of_z w64 s.args.target s.ranges.target),
+      room_next (from-target c.args.target) c.put_number_then-second.ensures first,
+      ap (λ (z : ℤ). length (from-target z)) (to_z-of_z w64 c.args.target c.ranges.target),
     )
 
 pub returns : goal.returns
 unfolding person_line
 returns c =
-    let c6 = c in
-    let c10 = c6 in
-    let s = c10 in
-    let first = room_next (from-minutes s.args.minutes s.args.target) c10.put_head-first.ensures s.requires in
-    let last = wrote-same (ap from-target (to_z-of_z w64 s.args.target s.ranges.target)) c.put_signed.ensures in
-    wrote-both c10.put_head-first.ensures (wrote-both c6.put_number_then-second.ensures last first) s.requires
+    let first = room_next (from-minutes c.args.minutes c.args.target) c.put_head-first.ensures c.requires in
+    let last = wrote-same (ap from-target (to_z-of_z w64 c.args.target c.ranges.target)) c.put_signed.ensures in
+    wrote-both c.put_head-first.ensures (wrote-both c.put_number_then-second.ensures last first) c.requires

@@ -10,46 +10,36 @@ use Rattle.job.proofs.listing.put_place.Goals as goal
 
 pub put_number_then-next-requires : goal.put_number_then-next-requires
 put_number_then-next-requires c =
-    let s = c in
-    let a = s.args in
+    let a = c.args in
     let r = subst (λ (l : List ℕ). a.at + length l ≤ length a.out.now) (sym (place-two a.part a.place a.second
-    c.if-part-eq4.true)) s.requires in
+    c.if-part-eq4.true)) c.requires in
     room-first (digits a.place ++ (32 ∷ [])) (digits a.second ++ (10 ∷ [])) _ r
 
 pub put_number_then-requires : goal.put_number_then-requires
 put_number_then-requires c =
-    let c3 = c in
-    let c5 = c3 in
-    let s = c5 in
-    let a = s.args in
+    let a = c.args in
     let r = subst (λ (l : List ℕ). a.at + length l ≤ length a.out.now) (sym (place-two a.part a.place a.second
-    c5.if-part-eq4.true)) s.requires in
-    room_next (digits a.second ++ (10 ∷ [])) c3.put_number_then-next.ensures r
+    c.if-part-eq4.true)) c.requires in
+    room_next (digits a.second ++ (10 ∷ [])) c.put_number_then-next.ensures r
 
 pub returns-then-part-eq4 : goal.returns-then-part-eq4
 returns-then-part-eq4 c =
-    let c6 = c in
-    let c8 = c6 in
-    let s = c8 in
-    let a = s.args in
-    let e = place-two a.part a.place a.second c8.if-part-eq4.true in
-    let r = subst (λ (l : List ℕ). a.at + length l ≤ length a.out.now) (sym e) s.requires in
-    wrote-same e (wrote-both c6.put_number_then-next.ensures c.put_number_then.ensures r)
+    let a = c.args in
+    let e = place-two a.part a.place a.second c.if-part-eq4.true in
+    let r = subst (λ (l : List ℕ). a.at + length l ≤ length a.out.now) (sym e) c.requires in
+    wrote-same e (wrote-both c.put_number_then-next.ensures c.put_number_then.ensures r)
 
 pub shape_of-out-then-part-eq4 : goal.shape_of-out-then-part-eq4
 shape_of-out-then-part-eq4 c =
-    let c8 = c in
-    wrote-length (returns-then-part-eq4 c) c8.requires
+    wrote-length (returns-then-part-eq4 c) c.requires
 
 pub put_number_then-requires-2 : goal.put_number_then-requires-2
 put_number_then-requires-2 c =
-    let s = c in
-    let a = s.args in
+    let a = c.args in
     subst (λ (l : List ℕ). a.at + length l ≤ length a.out.now) (sym (place-one a.part a.place a.second c.if-part-eq4.false))
-    s.requires
+    c.requires
 
 pub returns : goal.returns
 returns c =
-    let c4 = c in
-    let a = c4.args in
-    wrote-same (place-one a.part a.place a.second c4.if-part-eq4.false) c.put_number_then-2.ensures
+    let a = c.args in
+    wrote-same (place-one a.part a.place a.second c.if-part-eq4.false) c.put_number_then-2.ensures

@@ -11,45 +11,35 @@ use Rattle.job.proofs.listing.put_refusal.Goals as goal
 
 pub put_head-requires : goal.put_head-requires
 put_head-requires c =
-    let s = c in
-    let a = s.args in
-    omega (arith, ap length (line_plain a.part a.place a.second a.number c.if-part-eq0.true), s.requires)
+    let a = c.args in
+    omega (arith, ap length (line_plain a.part a.place a.second a.number c.if-part-eq0.true), c.requires)
 
 pub returns-then-part-eq0 : goal.returns-then-part-eq0
 returns-then-part-eq0 c =
-    let c4 = c in
-    let a = c4.args in
-    wrote-same (line_plain a.part a.place a.second a.number c4.if-part-eq0.true) c.put_head.ensures
+    let a = c.args in
+    wrote-same (line_plain a.part a.place a.second a.number c.if-part-eq0.true) c.put_head.ensures
 
 pub put_head-next-requires : goal.put_head-next-requires
 put_head-next-requires c =
-    let s = c in
-    let a = s.args in
+    let a = c.args in
     let e = line-part a.part a.place a.second a.number c.if-part-eq0.false in
     room-first (head_text 82 a.number 46) (part_text a.part a.place a.second) 0
-    (subst (λ (l : List ℕ). 0 + length l ≤ length a.out.now) (sym e) (omega (arith, s.requires)))
+    (subst (λ (l : List ℕ). 0 + length l ≤ length a.out.now) (sym e) (omega (arith, c.requires)))
 
 pub put_part-requires : goal.put_part-requires
 put_part-requires c =
-    let c3 = c in
-    let c5 = c3 in
-    let s = c5 in
-    let a = s.args in
-    let e = line-part a.part a.place a.second a.number c5.if-part-eq0.false in
-    room_next (part_text a.part a.place a.second) c3.put_head-next.ensures
-    (subst (λ (l : List ℕ). 0 + length l ≤ length a.out.now) (sym e) (omega (arith, s.requires)))
+    let a = c.args in
+    let e = line-part a.part a.place a.second a.number c.if-part-eq0.false in
+    room_next (part_text a.part a.place a.second) c.put_head-next.ensures
+    (subst (λ (l : List ℕ). 0 + length l ≤ length a.out.now) (sym e) (omega (arith, c.requires)))
 
 pub returns : goal.returns
 returns c =
-    let c6 = c in
-    let c8 = c6 in
-    let s = c8 in
-    let a = s.args in
-    let e = line-part a.part a.place a.second a.number c8.if-part-eq0.false in
-    wrote-same e (wrote-both c6.put_head-next.ensures c.put_part.ensures
-    (subst (λ (l : List ℕ). 0 + length l ≤ length a.out.now) (sym e) (omega (arith, s.requires))))
+    let a = c.args in
+    let e = line-part a.part a.place a.second a.number c.if-part-eq0.false in
+    wrote-same e (wrote-both c.put_head-next.ensures c.put_part.ensures
+    (subst (λ (l : List ℕ). 0 + length l ≤ length a.out.now) (sym e) (omega (arith, c.requires))))
 
 pub shape_of-out : goal.shape_of-out
 shape_of-out c =
-    let c8 = c in
-    wrote-length (returns c) (omega (arith, c8.requires))
+    wrote-length (returns c) (omega (arith, c.requires))

@@ -1,5 +1,4 @@
 -- `job::listing::put_slots` meets its contract. The invariant: the lines of the first k slots are written. Assumes nothing.
--- Below, c_n is what is known N places before c.
 use native.Mathlib.Omega.{arith}
 use Rattle.job.specs.Listing.{slot_at}
 use Rattle.job.proofs.Texts.{going_start, going-room, going_more, going_end}
@@ -20,21 +19,16 @@ bounds-owners-k c = omega (arith, c.requires.n_in_bounds)
 pub put_slot-next-requires : goal.put_slot-next-requires
 unfolding slot_at
 put_slot-next-requires c =
-    let c5 = c in
-    let s = c5 in
-    going-room c5.loop-k.invariant.0 s.args.n (omega arith) s.requires.n_in_bounds_2
+    going-room c.loop-k.invariant.0 c.args.n (omega arith) c.requires.n_in_bounds_2
 
 pub loop-k-preserved : goal.loop-k-preserved
 unfolding slot_at
 loop-k-preserved c =
-    let c8 = c in
-    let s = c8 in
-    (going_more c8.loop-k.invariant.0 c.put_slot-next.ensures s.args.n (omega arith) s.requires.n_in_bounds_2, omega arith)
+    (going_more c.loop-k.invariant.0 c.put_slot-next.ensures c.args.n (omega arith) c.requires.n_in_bounds_2, omega arith)
 
 pub shape_of-out : goal.shape_of-out
 shape_of-out c = c.loop-k.invariant.0.same
 
 pub returns : goal.returns
 returns c =
-    let c6 = c in
-    going_end c.loop-k.invariant.0 c6.args.n (omega arith)
+    going_end c.loop-k.invariant.0 c.args.n (omega arith)

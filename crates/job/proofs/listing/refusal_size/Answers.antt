@@ -10,13 +10,11 @@ returns-then-part-eq0 c =
 
 pub returns : goal.returns
 returns c =
-    let i = c in
-    let d = i in
-    let a = d.args in
+    let a = c.args in
     omega (
       arith,
-      placed-length a.part a.place a.second a.number i.if-part-eq0.false,
-      d.digit_count-size.ensures.0,
+      placed-length a.part a.place a.second a.number c.if-part-eq0.false,
+      c.digit_count-size.ensures.0,
       c.digit_count.ensures.0,
       c.place_size.ensures.0,
     )

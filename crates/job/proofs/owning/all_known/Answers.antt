@@ -1,5 +1,4 @@
 -- `job::owning::all_known` meets its contract. The invariant: the first k records are right. Assumes nothing.
--- Below, c_n is what is known N places before c.
 use mathlib.Core.Path.{sym, ◌∙◌}
 use native.Mathlib.Omega.{arith}
 use Rattle.paper.proofs.Count.{all_none, all_more, all-fails, all_done}
@@ -11,12 +10,12 @@ loop-k-init c = (all_none _, omega arith)
 
 pub loop-k-preserved : goal.loop-k-preserved
 loop-k-preserved c =
-    let c3 = c in
-    (all_more _ _ c3.loop-k.invariant.0 (sym c.record_known.ensures ∙ c.if-record_known.true), omega arith)
+    (all_more _ _ c.loop-k.invariant.0 (sym c.record_known.ensures ∙ c.if-not-record_known.false), omega arith)
 
-pub returns-else-record_known : goal.returns-else-record_known
+pub returns-then-not-record_known : goal.returns-then-not-record_known
 unfolding all_known
-returns-else-record_known c = sym (all-fails _ _ _ c.loop-k-test.true (sym c.record_known.ensures ∙ c.if-record_known.false))
+returns-then-not-record_known c =
+    sym (all-fails _ _ _ c.loop-k-test.true (sym c.record_known.ensures ∙ c.if-not-record_known.true))
 
 pub returns : goal.returns
 unfolding all_known

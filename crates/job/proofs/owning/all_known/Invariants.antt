@@ -1,14 +1,10 @@
 -- `job::owning::all_known` meets its contract. The invariant: the first k records are right. Assumes nothing.
--- Below, c_n is what is known N places before c.
 use mathlib.Core.Path.{◌≡◌}
 use mathlib.Core.Bool.{true}
-use Prim.Native.Nat.{◌-◌, ◌≤◌}
+use Prim.Native.Nat.{◌≤◌}
 use Rattle.paper.specs.Count.{all}
 use Rattle.job.specs.Stages.{record_known}
 use Rattle.job.proofs.owning.all_known.Given as goal
 
 abbrev pub invariant-loop-k : goal.invariant-loop-k
 invariant-loop-k l = (all l.k (record_known l.s l.at l.slots l.people) ≡ true) × (l.k ≤ l.n)
-
-abbrev pub decreases-loop-k : goal.decreases-loop-k
-decreases-loop-k l = l.n - l.k

@@ -10,13 +10,12 @@ pub loop-u-init : goal.loop-u-init
 loop-u-init c = (all_none _, omega arith)
 
 pub loop-u-preserved : goal.loop-u-preserved
-loop-u-preserved c = (all_more _ _ c.loop-u.invariant.0 (sym c.unit_even.ensures ∙ c.if-unit_even.true), omega arith)
+loop-u-preserved c = (all_more _ _ c.loop-u.invariant.0 (sym c.unit_even.ensures ∙ c.if-not-unit_even.false), omega arith)
 
-pub returns-else-unit_even : goal.returns-else-unit_even
+pub returns-then-not-unit_even : goal.returns-then-not-unit_even
 unfolding uneven_in
-returns-else-unit_even c =
-    let b = c in
-    scan-fails _ _ _ b.loop-u-test.true b.loop-u.invariant.0 (sym c.unit_even.ensures ∙ c.if-unit_even.false)
+returns-then-not-unit_even c =
+    scan-fails _ _ _ c.loop-u-test.true c.loop-u.invariant.0 (sym c.unit_even.ensures ∙ c.if-not-unit_even.true)
 
 pub returns : goal.returns
 unfolding uneven_in

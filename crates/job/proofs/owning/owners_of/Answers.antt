@@ -12,10 +12,9 @@ use Rattle.job.proofs.owning.owners_of.Goals as goal
 
 pub returns : goal.returns
 returns c =
-    let c3 = c in
-    let a = c3.args in
-    let placed-is = c3.placed_by-written.ensures in
-    let uneven-is = c3.first_uneven-uneven.ensures ∙ ap (λ (o : List ℕ). uneven_in a.slots a.units a.begins.now o) placed-is in
+    let a = c.args in
+    let placed-is = c.placed_by-written.ensures in
+    let uneven-is = c.first_uneven-uneven.ensures ∙ ap (λ (o : List ℕ). uneven_in a.slots a.units a.begins.now o) placed-is in
     record {
       number = said _ c.owners_refusal-number.ensures
           ∙ ap (λ (b : Bool). number_of (owners_row a.s.now a.at a.n a.slots a.people b)) (even-test _ _ _ _ _ uneven-is);

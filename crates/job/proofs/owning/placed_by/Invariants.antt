@@ -1,12 +1,8 @@
 -- `job::owning::placed_by` meets its contract. The invariant: the first k records are placed. Assumes nothing.
--- Below, c_n is what is known N places before c.
 use mathlib.Core.Path.{◌≡◌}
-use Prim.Native.Nat.{◌-◌, ◌≤◌}
+use Prim.Native.Nat.{◌≤◌}
 use Rattle.job.specs.Stages.{placed}
 use Rattle.job.proofs.owning.placed_by.Given as goal
 
 abbrev pub invariant-loop-k : goal.invariant-loop-k
 invariant-loop-k l = (l.out ≡ placed l.s l.at l.slots l.k) × (l.k ≤ l.n)
-
-abbrev pub decreases-loop-k : goal.decreases-loop-k
-decreases-loop-k l = l.n - l.k

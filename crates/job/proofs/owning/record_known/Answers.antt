@@ -1,5 +1,4 @@
 -- `job::owning::record_known` meets its contract. Assumes nothing.
--- Below, c_n is what is known N places before c.
 use mathlib.Core.Path.{sym, ap, ◌∙◌}
 use borrow.Author.Tests.{ne_eqb}
 use Rattle.owners.specs.Derived.{known_by}
@@ -9,16 +8,14 @@ use Rattle.job.proofs.owning.record_known.Goals as goal
 
 pub returns-then-owner-eq255 : goal.returns-then-owner-eq255
 returns-then-owner-eq255 c =
-    let c3 = c in
     sym (ap (known_by _) c.if-owner-eq255.true ∙ known-nobody _)
-    ∙ record-owner _ _ _ _ _ _ _ c3.owner_slot-slot.ensures c.owner_value-owner.ensures c.if-slot-slots.true
+    ∙ record-owner _ _ _ _ _ _ _ c.owner_slot-slot.ensures c.owner_value-owner.ensures c.if-slot-slots.true
 
 pub returns-then-slot-slots : goal.returns-then-slot-slots
 unfolding known_by
 returns-then-slot-slots c =
-    let c3 = c in
     sym (simp (ne_eqb _ _ c.if-owner-eq255.false))
-    ∙ record-owner _ _ _ _ _ _ _ c3.owner_slot-slot.ensures c.owner_value-owner.ensures c.if-slot-slots.true
+    ∙ record-owner _ _ _ _ _ _ _ c.owner_slot-slot.ensures c.owner_value-owner.ensures c.if-slot-slots.true
 
 pub returns : goal.returns
 returns c = record-slot _ _ _ _ _ _ c.owner_slot-slot.ensures c.if-slot-slots.false

@@ -1,5 +1,4 @@
 -- `job::owning::unit_even` meets its contract. The invariant: the slots from the unit's start up to k have its owner. Assumes nothing.
--- Below, c_n is what is known N places before c.
 use mathlib.Core.Path.{sym, ◌∙◌}
 use native.Mathlib.Omega.{arith}
 use borrow.Author.Tests.{eq-eqb, ne_eqb}
@@ -13,19 +12,15 @@ loop-k-init c = (in-none _ _, omega arith)
 pub loop-k-preserved : goal.loop-k-preserved
 loop-k-preserved c =
     let inv = c.loop-k.invariant in
-    (in-more _ _ _ inv.1 inv.0 (eq-eqb _ _ (sym c.entry16.ensures ∙ c.if-entry16-owner.true)), omega arith)
+    (in-more _ _ _ inv.1 inv.0 (eq-eqb _ _ (sym c.entry16.ensures ∙ c.if-entry16-owner.false)), omega arith)
 
-pub returns-else-entry16-owner : goal.returns-else-entry16-owner
-returns-else-entry16-owner c =
-    let c3 = c in
-    let c4 = c3 in
-    let c5 = c4 in
-    in-fails _ _ _ _ c3.loop-k.invariant.1 c.loop-k-test.true
-    (ne_eqb _ _ (λ x. c.if-entry16-owner.false (c.entry16.ensures ∙ x)))
-    ∙ even-as _ _ _ _ _ _ _ _ c5.start_of-a.ensures c5.unit_end-e.ensures c4.entry16-owner.ensures
+pub returns-then-entry16-owner : goal.returns-then-entry16-owner
+returns-then-entry16-owner c =
+    in-fails _ _ _ _ c.loop-k.invariant.1 c.loop-k-test.true
+    (ne_eqb _ _ (λ x. c.if-entry16-owner.true (c.entry16.ensures ∙ x)))
+    ∙ even-as _ _ _ _ _ _ _ _ c.start_of-a.ensures c.unit_end-e.ensures c.entry16-owner.ensures
 
 pub returns : goal.returns
 returns c =
-    let c3 = c in
-    sym (sym (even-as _ _ _ _ _ _ _ _ c3.start_of-a.ensures c3.unit_end-e.ensures c.entry16-owner.ensures)
+    sym (sym (even-as _ _ _ _ _ _ _ _ c.start_of-a.ensures c.unit_end-e.ensures c.entry16-owner.ensures)
     ∙ each_in _ _ _ (λ j a b. in-each _ _ _ c.loop-k.invariant.0 j a (omega arith)))

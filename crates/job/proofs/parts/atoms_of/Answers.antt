@@ -1,18 +1,16 @@
 -- `job::parts::atoms_of` meets its contract. Assumes nothing.
--- Below, c_n is what is known N places before c.
 use borrow.Author.Rules.{rules}
 use mathlib.Core.Path.{sym, ap, ◌∙◌}
-use Rattle.slotset.specs.Answers.{number_refusal}
+use Rattle.paper.specs.Rows.{answer_refusal}
 use Rattle.job.specs.Stages.{value_of}
 use Rattle.job.proofs.parts.atoms_of.Goals as goal
 
-pub returns-in-Is : goal.returns-in-Is
-returns-in-Is c =
-    let c5 = c in
-    let w = c5.atomise-answer.ensures in
-    let e = sym w.said ∙ c.in-Is.is in
+pub returns-in-Ok : goal.returns-in-Ok
+returns-in-Ok c =
+    let w = c.atomise-answer.ensures in
+    let e = sym w.said ∙ c.in-Ok.is in
     record {
-      number = sym (ap number_refusal e);
+      number = sym (ap answer_refusal e);
       count = sym (ap value_of e);
       starts = w.starts;
       ends = w.ends;
@@ -20,13 +18,12 @@ returns-in-Is c =
       ends-room = search rules;
     }
 
-pub returns-in-Refused : goal.returns-in-Refused
-returns-in-Refused c =
-    let c5 = c in
-    let w = c5.atomise-answer.ensures in
-    let e = sym w.said ∙ c.in-Refused.is in
+pub returns-in-Err : goal.returns-in-Err
+returns-in-Err c =
+    let w = c.atomise-answer.ensures in
+    let e = sym w.said ∙ c.in-Err.is in
     record {
-      number = sym (ap number_refusal e);
+      number = sym (ap answer_refusal e);
       count = sym (ap value_of e);
       starts = w.starts;
       ends = w.ends;

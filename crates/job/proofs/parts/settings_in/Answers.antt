@@ -1,5 +1,4 @@
 -- `job::parts::settings_in` meets its contract. Assumes nothing.
--- Below, c_n is what is known N places before c.
 use mathlib.Core.Path.{ap₂}
 use Prim.Native.Nat.{ℕ}
 use lib.ListN.{get_or}
@@ -10,10 +9,7 @@ use Rattle.job.proofs.parts.settings_in.Goals as goal
 pub returns : goal.returns
 unfolding settings_in
 returns c =
-    let c4 = c in
-    let c5 = c4 in
-    let c7 = c5 in
-    let s = c7.args.s.now in
+    let s = c.args.s.now in
     ap₂ {A = ℕ} {B = ℕ} {C = Settings} (λ (v d : ℕ). record {
       fairness = get_or s 4 0;
       lock = get_or s 5 0;
@@ -22,4 +18,4 @@ returns c =
       value = v;
       days = d;
     })
-    c5.field-value.ensures.0 c4.field-days.ensures.0
+    c.field-value.ensures.0 c.field-days.ensures.0

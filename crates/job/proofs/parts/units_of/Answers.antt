@@ -1,18 +1,18 @@
 -- `job::parts::units_of` meets its contract. Assumes nothing.
 use borrow.Author.Rules.{rules}
 use mathlib.Core.Path.{sym, ap, ◌∙◌}
-use Rattle.slotset.specs.Answers.{number_refusal}
+use Rattle.paper.specs.Rows.{answer_refusal}
 use Rattle.job.specs.Stages.{value_of}
 use Rattle.job.proofs.parts.units_of.Goals as goal
 
-pub returns-in-Is : goal.returns-in-Is
-returns-in-Is c =
+pub returns-in-Ok : goal.returns-in-Ok
+returns-in-Ok c =
     let w = c.unit_starts-answer.ensures in
-    let e = sym w.said ∙ c.in-Is.is in
-    record { number = sym (ap number_refusal e); count = sym (ap value_of e); begins = w.left; room = search rules }
+    let e = sym w.said ∙ c.in-Ok.is in
+    record { number = sym (ap answer_refusal e); count = sym (ap value_of e); begins = w.left; room = search rules }
 
-pub returns-in-Refused : goal.returns-in-Refused
-returns-in-Refused c =
+pub returns-in-Err : goal.returns-in-Err
+returns-in-Err c =
     let w = c.unit_starts-answer.ensures in
-    let e = sym w.said ∙ c.in-Refused.is in
-    record { number = sym (ap number_refusal e); count = sym (ap value_of e); begins = w.left; room = search rules }
+    let e = sym w.said ∙ c.in-Err.is in
+    record { number = sym (ap answer_refusal e); count = sym (ap value_of e); begins = w.left; room = search rules }

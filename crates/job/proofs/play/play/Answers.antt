@@ -1,5 +1,4 @@
 -- `job::play::play` meets its contract. Assumes nothing.
--- Below, c_n is what is known N places before c.
 use mathlib.Core.Path.{sym, ap, ◌∙◌, subst}
 use native.Mathlib.Omega.{arith}
 use lib.Dec.{lit<, lit≤}
@@ -36,43 +35,31 @@ column16-seconds-requires c =
 
 pub slice_bounds-play_draws-end-4 : goal.slice_bounds-play_draws-end-4
 slice_bounds-play_draws-end-4 c =
-    let c8 = c in
-    let c16 = c8 in
-    sym c16.requires.begins_len.0
+    sym c.requires.begins_len.0
 
 pub slice_bounds-play_draws-end-5 : goal.slice_bounds-play_draws-end-5
 slice_bounds-play_draws-end-5 c =
-    let c8 = c in
-    let c16 = c8 in
-    sym c16.requires.begins_len.1
+    sym c.requires.begins_len.1
 
 pub slice_bounds-play_draws-end-6 : goal.slice_bounds-play_draws-end-6
 slice_bounds-play_draws-end-6 c =
-    let c8 = c in
-    let c16 = c8 in
-    sym (ap length c16.column16-draws.ensures ∙ length-column 2 _ _ _ _)
+    sym (ap length c.column16-draws.ensures ∙ length-column 2 _ _ _ _)
 
 pub slice_bounds-play_draws-end-7 : goal.slice_bounds-play_draws-end-7
 slice_bounds-play_draws-end-7 c =
-    let c8 = c in
-    let c16 = c8 in
-    sym (ap length c16.column16-firsts.ensures ∙ length-column 2 _ _ _ _)
+    sym (ap length c.column16-firsts.ensures ∙ length-column 2 _ _ _ _)
 
 pub slice_bounds-play_draws-end-8 : goal.slice_bounds-play_draws-end-8
 slice_bounds-play_draws-end-8 c =
-    let c8 = c in
-    let c16 = c8 in
-    sym (ap length c16.column16-seconds.ensures ∙ length-column 2 _ _ _ _)
+    sym (ap length c.column16-seconds.ensures ∙ length-column 2 _ _ _ _)
 
 pub returns : goal.returns
 unfolding play_of
 returns c =
-    let c8 = c in
-    let c16 = c8 in
-    let K = c16.requires.read_ok in
-    let p = c16.args.p in
-    let draws = c16.column16-draws.ensures in
-    let firsts = c16.column16-firsts.ensures in
-    let seconds = c16.column16-seconds.ensures in
+    let K = c.requires.read_ok in
+    let p = c.args.p in
+    let draws = c.column16-draws.ensures in
+    let firsts = c.column16-firsts.ensures in
+    let seconds = c.column16-seconds.ensures in
     subst (λ (d : Draws). PlayedAs (play_of (ready_by p) d p.owners (derived p.sets p.minutes p.totals)) c.play_draws.result)
     (draws-is K (draws ∙ read-column K 6 0 2) (firsts ∙ read-column K 6 2 2) (seconds ∙ read-column K 6 4 2)) c.play_draws.ensures

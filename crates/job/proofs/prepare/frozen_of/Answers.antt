@@ -1,5 +1,4 @@
 -- `job::prepare::frozen_of` meets its contract. Assumes nothing.
--- Below, c_n is what is known N places before c.
 use Rattle.job.proofs.Readings.{read-freeze, frozen-are}
 use Rattle.job.proofs.prepare.frozen_of.Goals as goal
 

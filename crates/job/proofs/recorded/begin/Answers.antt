@@ -29,18 +29,16 @@ read_refusal-refusal-requires c = search rules
 
 pub prepare-p-requires : goal.prepare-p-requires
 prepare-p-requires c =
-    let q = c in
-    let w = q.read_file-w.ensures in
-    reads_ok _ _ _ _ _ _ _ w.ok_value q.both-right.ensures w.counts_value.0 w.counts_value.1 q.read_refusal-refusal.ensures c.if-refusal-eq0.true
+    let w = c.read_file-w.ensures in
+    reads_ok _ _ _ _ _ _ _ w.ok_value c.both-right.ensures w.counts_value.0 w.counts_value.1 c.read_refusal-refusal.ensures c.if-refusal-eq0.true
 
 pub begun_of-requires : goal.begun_of-requires
 begun_of-requires c = search rules
 
 pub returns-then-number-eq0 : goal.returns-then-number-eq0
 returns-then-number-eq0 c =
-    let q = c in
-    let w = q.read_file-w.ensures in
-    begun-right _ _ _ _ _ _ _ w.ok_value q.both-right.ensures w.counts_value.0 w.counts_value.1 q.read_refusal-refusal.ensures c.if-refusal-eq0.true _ c.prepare-p.ensures _ c.if-number-eq0.true c.begun_of.ensures
+    let w = c.read_file-w.ensures in
+    begun-right _ _ _ _ _ _ _ w.ok_value c.both-right.ensures w.counts_value.0 w.counts_value.1 c.read_refusal-refusal.ensures c.if-refusal-eq0.true _ c.prepare-p.ensures _ c.if-number-eq0.true c.begun_of.ensures
 
 pub refusal_at-requires : goal.refusal_at-requires
 refusal_at-requires c = search rules
@@ -50,9 +48,8 @@ not_begun-requires c = search rules
 
 pub returns-then-refusal-eq0 : goal.returns-then-refusal-eq0
 returns-then-refusal-eq0 c =
-    let q = c in
-    let w = q.read_file-w.ensures in
-    begun-unfit _ _ _ _ _ _ _ w.ok_value q.both-right.ensures w.counts_value.0 w.counts_value.1 q.read_refusal-refusal.ensures c.if-refusal-eq0.true _ c.prepare-p.ensures _ _ c.if-number-eq0.false c.refusal_at.ensures
+    let w = c.read_file-w.ensures in
+    begun-unfit _ _ _ _ _ _ _ w.ok_value c.both-right.ensures w.counts_value.0 w.counts_value.1 c.read_refusal-refusal.ensures c.if-refusal-eq0.true _ c.prepare-p.ensures _ _ c.if-number-eq0.false c.refusal_at.ensures
     c.not_begun.ensures
 
 pub not_begun-requires-2 : goal.not_begun-requires-2
@@ -60,6 +57,5 @@ not_begun-requires-2 c = search rules
 
 pub returns : goal.returns
 returns c =
-    let q = c in
-    let w = q.read_file-w.ensures in
-    begun-unread _ _ _ _ _ _ _ w.ok_value q.both-right.ensures w.counts_value.0 w.counts_value.1 q.read_refusal-refusal.ensures _ c.if-refusal-eq0.false c.not_begun-2.ensures
+    let w = c.read_file-w.ensures in
+    begun-unread _ _ _ _ _ _ _ w.ok_value c.both-right.ensures w.counts_value.0 w.counts_value.1 c.read_refusal-refusal.ensures _ c.if-refusal-eq0.false c.not_begun-2.ensures

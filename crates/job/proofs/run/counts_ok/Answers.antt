@@ -1,27 +1,21 @@
 -- `job::run::counts_ok` meets its contract. Assumes nothing.
--- Below, c_n is what is known N places before c.
 use mathlib.Core.Path.{sym, ◌∙◌}
 use Rattle.job.proofs.Prepares.{counts-draws, counts-ranges, counts-people, counts-base}
 use Rattle.job.proofs.run.counts_ok.Goals as goal
 
 pub returns-then-ranges-le-RANGES_MOST : goal.returns-then-ranges-le-RANGES_MOST
 returns-then-ranges-le-RANGES_MOST c =
-    let c3 = c in
-    let c4 = c3 in
-    counts-draws _ _ _ _ (sym c4.slot_count_ok.ensures ∙ c3.if-slot_count_ok.true)
+    counts-draws _ _ _ _ (sym c.slot_count_ok.ensures ∙ c.if-slot_count_ok.true)
     (sym c.people_ok.ensures ∙ c.if-people_ok.true) c.if-ranges-le-RANGES_MOST.true
 
 pub returns-then-people_ok : goal.returns-then-people_ok
 returns-then-people_ok c =
-    let c3 = c in
-    let c4 = c3 in
-    counts-ranges _ _ _ _ (sym c4.slot_count_ok.ensures ∙ c3.if-slot_count_ok.true)
+    counts-ranges _ _ _ _ (sym c.slot_count_ok.ensures ∙ c.if-slot_count_ok.true)
     (sym c.people_ok.ensures ∙ c.if-people_ok.true) c.if-ranges-le-RANGES_MOST.false
 
 pub returns-then-slot_count_ok : goal.returns-then-slot_count_ok
 returns-then-slot_count_ok c =
-    let c3 = c in
-    counts-people _ _ _ _ (sym c3.slot_count_ok.ensures ∙ c.if-slot_count_ok.true)
+    counts-people _ _ _ _ (sym c.slot_count_ok.ensures ∙ c.if-slot_count_ok.true)
     (sym c.people_ok.ensures ∙ c.if-people_ok.false)
 
 pub returns : goal.returns

@@ -7,7 +7,6 @@ use Rattle.job.proofs.run.read_refusal.Goals as goal
 pub returns : goal.returns
 unfolding read_row
 returns c =
-    let c3 = c in
-    checked _ refl c3.accepted.ensures
-    (link c.check-f.ensures (link (renamed _ 1 c.check-f-2.ensures c3.counts_ok-few.ensures)
+    checked _ refl c.accepted.ensures
+    (link c.check-f.ensures (link (renamed _ 1 c.check-f-2.ensures c.counts_ok-few.ensures)
     (link c.check.ensures ends)))

@@ -7,8 +7,7 @@ use Rattle.job.proofs.shown.block_refusal.Goals as goal
 pub returns : goal.returns
 unfolding block_row
 returns c =
-    let b = c in
-    checked _ refl b.accepted.ensures
-    (link b.check_people-f.ensures (link b.check_slots-f.ensures
-    (link b.check-f.ensures (link b.check-f-2.ensures (link c.check-f-3.ensures
+    checked _ refl c.accepted.ensures
+    (link c.check_people-f.ensures (link c.check_slots-f.ensures
+    (link c.check-f.ensures (link c.check-f-2.ensures (link c.check-f-3.ensures
     (link c.check-f-4.ensures (link c.check-f-5.ensures (link c.check.ensures ends))))))))

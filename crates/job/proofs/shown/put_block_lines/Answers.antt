@@ -14,20 +14,17 @@ from_front h = omega arith
 pub put_head-first-requires : goal.put_head-first-requires
 unfolding block_text
 put_head-first-requires c =
-    let s = c in
-    let a = s.args in
+    let a = c.args in
     room-first (head_text 66 a.block 10) ((lines (slot_at a.starts.now a.ends.now a.owners.now) a.slots) ++
-    (lines (person_at a.minutes.now a.targets.now) a.people)) 0 (from_front s.requires.targets_in_bounds)
+    (lines (person_at a.minutes.now a.targets.now) a.people)) 0 (from_front c.requires.targets_in_bounds)
 
 pub put_slots-second-requires : goal.put_slots-second-requires
 unfolding block_text
 put_slots-second-requires c =
-    let c8 = c in
-    let s = c8 in
-    let a = s.args in
+    let a = c.args in
     let first = room_next ((lines (slot_at a.starts.now a.ends.now a.owners.now) a.slots) ++ (lines (person_at a.minutes.now a.targets.now) a.people))
-    c.put_head-first.ensures (from_front s.requires.targets_in_bounds) in record {
-      n_in_bounds = s.requires.slots_in_bounds;
+    c.put_head-first.ensures (from_front c.requires.targets_in_bounds) in record {
+      n_in_bounds = c.requires.slots_in_bounds;
       n_in_bounds_2 = room-first (lines (slot_at a.starts.now a.ends.now a.owners.now) a.slots) (lines (person_at a.minutes.now a.targets.now) a.people)
           _ first;
     }
@@ -35,12 +32,10 @@ put_slots-second-requires c =
 pub put_people-requires : goal.put_people-requires
 unfolding block_text
 put_people-requires c =
-    let c8 = c in
-    let s = c8 in
-    let a = s.args in
+    let a = c.args in
     let first = room_next ((lines (slot_at a.starts.now a.ends.now a.owners.now) a.slots) ++ (lines (person_at a.minutes.now a.targets.now) a.people))
-    c.put_head-first.ensures (from_front s.requires.targets_in_bounds) in
-    record { n_in_bounds = s.requires.people_in_bounds; n_in_bounds_2 = room_next (lines (person_at a.minutes.now a.targets.now) a.people) c.put_slots-second.ensures first }
+    c.put_head-first.ensures (from_front c.requires.targets_in_bounds) in
+    record { n_in_bounds = c.requires.people_in_bounds; n_in_bounds_2 = room_next (lines (person_at a.minutes.now a.targets.now) a.people) c.put_slots-second.ensures first }
 
 pub shape_of-out : goal.shape_of-out
 shape_of-out c = search rules
@@ -48,12 +43,9 @@ shape_of-out c = search rules
 pub returns : goal.returns
 unfolding block_text
 returns c =
-    let c8 = c in
-    let c16 = c8 in
-    let s = c16 in
-    let a = s.args in
+    let a = c.args in
     let first = room_next ((lines (slot_at a.starts.now a.ends.now a.owners.now) a.slots) ++ (lines (person_at a.minutes.now a.targets.now) a.people))
-    c8.put_head-first.ensures (from_front s.requires.targets_in_bounds) in
-    wrote-both c8.put_head-first.ensures
+    c.put_head-first.ensures (from_front c.requires.targets_in_bounds) in
+    wrote-both c.put_head-first.ensures
     (wrote-both c.put_slots-second.ensures c.put_people.ensures first)
-    (from_front s.requires.targets_in_bounds)
+    (from_front c.requires.targets_in_bounds)

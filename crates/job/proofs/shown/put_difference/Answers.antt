@@ -14,14 +14,12 @@ from_front h = omega arith
 pub put_head-next-requires : goal.put_head-next-requires
 unfolding differ_line
 put_head-next-requires c =
-    let s = c in
-    room-first (head_text 88 s.args.block 32) (digits s.args.place ++ (10 ∷ [])) 0 (from_front s.requires)
+    room-first (head_text 88 c.args.block 32) (digits c.args.place ++ (10 ∷ [])) 0 (from_front c.requires)
 
 pub put_number_then-requires : goal.put_number_then-requires
 unfolding differ_line
 put_number_then-requires c =
-    let s = c in
-    room_next (digits s.args.place ++ (10 ∷ [])) c.put_head-next.ensures (from_front s.requires)
+    room_next (digits c.args.place ++ (10 ∷ [])) c.put_head-next.ensures (from_front c.requires)
 
 pub shape_of-out : goal.shape_of-out
 shape_of-out c = search rules
@@ -29,5 +27,4 @@ shape_of-out c = search rules
 pub returns : goal.returns
 unfolding differ_line
 returns c =
-    let s = c in
-    wrote-both c.put_head-next.ensures c.put_number_then.ensures (from_front s.requires)
+    wrote-both c.put_head-next.ensures c.put_number_then.ensures (from_front c.requires)

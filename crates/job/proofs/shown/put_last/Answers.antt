@@ -47,11 +47,10 @@ shape_of-out-in-Agrees c = search rules
 
 pub returns-in-Agrees : goal.returns-in-Agrees
 returns-in-Agrees c =
-    let c8 = c in
-    let e = c8.in-Agrees.is in
+    let e = c.in-Agrees.is in
     wrote-same (sym (ap last_line e))
     (wrote-both c.put_byte-next.ensures c.put_byte.ensures
-    (omega (arith, c8.requires, ap (λ (z : Ending). length (last_line z)) e)))
+    (omega (arith, c.requires, ap (λ (z : Ending). length (last_line z)) e)))
 
 pub shape_of-out-in-Differs : goal.shape_of-out-in-Differs
 shape_of-out-in-Differs c = search rules

@@ -20,19 +20,12 @@ offset_bounds-targets-p c = omega arith
 pub bounds-targets-p : goal.bounds-targets-p
 bounds-targets-p c = omega arith
 
-pub overflow_add-p : goal.overflow_add-p
-overflow_add-p c = omega arith
-
-pub loop-p-smaller : goal.loop-p-smaller
-loop-p-smaller c = omega arith
-
 pub loop-p-preserved : goal.loop-p-preserved
 loop-p-preserved c =
-    let l = c in
-    let f : SFits w64 (get_or l.args.targets.now l.loop-p.p (pos 0)) = search rules in (
+    let f : SFits w64 (get_or c.args.targets.now c.loop-p.p (pos 0)) = search rules in (
       λ i h. below_suc _ (omega arith)
-          (λ e. subst (λ (j : ℕ). mag (get_or l.args.targets.now j (pos 0)) < 2 ^ 63) (sym e) f.sfits)
-          (λ g. l.loop-p.invariant.0 i g),
+          (λ e. subst (λ (j : ℕ). mag (get_or c.args.targets.now j (pos 0)) < 2 ^ 63) (sym e) f.sfits)
+          (λ g. c.loop-p.invariant.0 i g),
       omega arith,
     )
 

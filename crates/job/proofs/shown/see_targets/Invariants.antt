@@ -1,5 +1,5 @@
 -- `job::shown::see_targets` meets its contract. Assumes nothing.
-use Prim.Native.Nat.{ℕ, ◌-◌, ◌^◌, ◌≤◌, ◌<◌}
+use Prim.Native.Nat.{ℕ, ◌^◌, ◌≤◌, ◌<◌}
 use lib.IntN.{pos}
 use lib.Signed.{mag}
 use lib.ListN.{get_or}
@@ -7,6 +7,3 @@ use Rattle.job.proofs.shown.see_targets.Given as goal
 
 abbrev pub invariant-loop-p : goal.invariant-loop-p
 invariant-loop-p l = ((i : ℕ) → i < l.p → mag (get_or l.targets i (pos 0)) < 2 ^ 63) × (l.p ≤ l.people)
-
-abbrev pub decreases-loop-p : goal.decreases-loop-p
-decreases-loop-p l = l.people - l.p

@@ -1,14 +1,9 @@
 -- `mend::clearing::clear_barred` meets its contract. Assumes nothing.
 use mathlib.Core.Path.{◌≡◌}
-use Prim.Native.Nat.{◌-◌, ◌≤◌}
-use lib.ListN.{length}
 use Rattle.paper.specs.Count.{over}
 use Rattle.mend.specs.Mended.{left_to}
 use Rattle.mend.proofs.clearing.clear_barred.Given as goal
 
 abbrev pub invariant-loop-k : goal.invariant-loop-k
 invariant-loop-k l =
-    (l.k ≤ l.slots) × (l.owners ≡ over (left_to l.people l.avail l.initial.owners) l.k l.initial.owners) × (length l.owners ≡ length l.initial.owners)
-
-abbrev pub decreases-loop-k : goal.decreases-loop-k
-decreases-loop-k l = l.slots - l.k
+    l.owners ≡ over (left_to l.people l.avail l.initial.owners) l.k l.initial.owners

@@ -5,36 +5,25 @@ use native.Mathlib.Omega.{arith}
 use Rattle.paper.proofs.Count.{count_none, count-in, count-out, count-done}
 use Rattle.mend.proofs.ListLaws.{differs-no, differs-yes}
 use Rattle.mend.proofs.listing.count_owners.Goals as goal
+use Rattle.mend.proofs.listing.count_owners.Goals.{then-owner_at, else-owner_at}
 
 pub loop-k-init : goal.loop-k-init
-loop-k-init c = (omega arith, omega arith, sym (count_none _))
-
-pub loop-k-preserved-then-owner_at : goal.loop-k-preserved-then-owner_at
-loop-k-preserved-then-owner_at c =
-    let at = c.loop-k in
-    let d = differs-no _ _ _ _ _ c.owner_at.ensures c.owner_at-in-loop-k.ensures c.if-owner_at.true in
-    (omega arith, omega arith, at.invariant.2 ∙ sym (count-out _ _ d))
+loop-k-init c = (omega arith, sym (count_none _))
 
 pub loop-k-preserved : goal.loop-k-preserved
 loop-k-preserved c =
-    let at = c.loop-k in
-    let d = differs-yes _ _ _ _ _ c.owner_at.ensures c.owner_at-in-loop-k.ensures c.if-owner_at.false in
-    (omega arith, omega arith, ap (λ (x : ℕ). x + 1) at.invariant.2 ∙ sym (count-in _ _ d))
+    let old = c.owner_at.ensures in
+    let new = c.owner_at-in-loop-k.ensures in
+    elim c.if-owner_at.branch [
+      | then-owner_at w ↦ (
+        omega arith,
+        w.found-is ∙ ap (λ (x : ℕ). x + 1) c.loop-k.invariant.1 ∙ sym (count-in _ _ (differs-yes _ _ _ _ _ old new w.if-owner_at.true)),
+      )
+      | else-owner_at w ↦ (
+        omega arith,
+        w.found-is ∙ c.loop-k.invariant.1 ∙ sym (count-out _ _ (differs-no _ _ _ _ _ old new w.if-owner_at.false)),
+      )
+    ]
 
 pub returns : goal.returns
-returns c = count-done _ _ _ _ c.loop-k.invariant.0 c.loop-k-test.false c.loop-k.invariant.2
-
-pub overflow_add-k : goal.overflow_add-k
-overflow_add-k c = omega arith
-
-pub loop-k-smaller-then-owner_at : goal.loop-k-smaller-then-owner_at
-loop-k-smaller-then-owner_at c = omega arith
-
-pub overflow_add-found : goal.overflow_add-found
-overflow_add-found c = omega arith
-
-pub overflow_add-k-else-owner_at : goal.overflow_add-k-else-owner_at
-overflow_add-k-else-owner_at c = omega arith
-
-pub loop-k-smaller : goal.loop-k-smaller
-loop-k-smaller c = omega arith
+returns c = count-done _ _ _ _ c.loop-k.auto.k-end c.loop-k-test.false c.loop-k.invariant.1

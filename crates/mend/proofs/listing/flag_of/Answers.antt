@@ -1,15 +1,19 @@
 -- `mend::listing::flag_of` meets its contract. Assumes nothing.
-use mathlib.Core.Path.{sym, ◌∙◌}
-use borrow.Author.Tests.{eqb-true, eqb-false}
-use Rattle.paper.proofs.Logic.{zero_of}
+use mathlib.Core.Path.{◌≡◌, refl, ap, ◌∙◌}
+use Prim.Native.Nat.{ℕ, zero, suc, ◌<◌}
+use native.Mathlib.Omega.{arith}
+use mir.Val.{bool_byte}
+use lib.Dec.{eqb}
 use Rattle.slotset.proofs.Puts.{slot_lt}
 use Rattle.mend.specs.Repairs.{flag_of}
 use Rattle.mend.proofs.listing.flag_of.Goals as goal
 
-pub returns-then-holds : goal.returns-then-holds
-unfolding flag_of
-returns-then-holds c = sym (eqb-true _ _ (sym c.holds.ensures ∙ c.if-holds.true))
+-- a bit is what its test says
+as-bit : (x : ℕ) → x < 2 → bool_byte (eqb x 1) ≡ x
+as-bit zero h = refl
+as-bit (suc zero) h = refl
+as-bit (suc (suc x)) h = absurd (omega arith)
 
-pub returns-else-holds : goal.returns-else-holds
+pub returns : goal.returns
 unfolding flag_of
-returns-else-holds c = sym (zero_of _ (slot_lt _ _ _) (eqb-false _ _ (sym c.holds.ensures ∙ c.if-holds.false)))
+returns c = c.from.ensures ∙ ap bool_byte c.holds.ensures ∙ as-bit _ (slot_lt _ _ _)

@@ -6,8 +6,7 @@ use Rattle.mend.proofs.mending.mend.Goals as goal
 
 pub mend_found-requires : goal.mend_found-requires
 mend_found-requires c =
-    let i = c in
-    sym (said _ i.found_refusal-n.ensures) ∙ i.if-n-eq0.true
+    sym (said _ c.found_refusal-n.ensures) ∙ c.if-n-eq0.true
 
 pub returns : goal.returns
 returns c = ends-refused _ _ _ _ _ _ _ _ c.found_refusal-n.ensures refl c.if-n-eq0.false _

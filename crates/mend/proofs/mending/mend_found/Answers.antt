@@ -9,8 +9,8 @@ pub work_out-requires : goal.work_out-requires
 work_out-requires c =
     let z = c.requires in record {
       mendable = mendable _ _ _ _ _ _ z;
-      new_room = local-room _ _ _ _ _ _ z _ _ _ _ (length-replicate {A = ℕ} 1024 0) (length-replicate {A = ℕ} 512 0) (length-replicate {A = ℕ} 32 0)
-          (length-replicate {A = ℕ} 2 0);
+      new_room = local-room _ _ _ _ _ _ z _ _ _ _ (length-replicate {A = ℕ} 1024 0) (length-replicate {A = ℕ} 512 0)
+          (length-replicate {A = ℕ} 32 0) (length-replicate {A = ℕ} 2 0);
     }
 
 pub write_out-requires : goal.write_out-requires
@@ -25,7 +25,4 @@ write_out-requires c =
 
 pub returns : goal.returns
 returns c =
-    let w = c in
-    let o = w in
-    let a = o in
-    ended-as _ _ _ _ _ (writes-due _ _ _ _ _ _ a.requires _ _ _ _ o.work_out.ensures _) w.write_out.ensures
+    ended-as _ _ _ _ _ (writes-due _ _ _ _ _ _ c.requires _ _ _ _ c.work_out.ensures _) c.write_out.ensures

@@ -1,14 +1,11 @@
 -- `mend::mending::work_out` meets its contract. Assumes nothing.
-use Rattle.mend.proofs.Made.{worked-out}
+use Rattle.mend.proofs.Made.{copied-front, worked-out}
 use Rattle.mend.proofs.mending.work_out.Goals as goal
 
 pub returns : goal.returns
 returns c =
-    let f = c in
-    let w = f in
-    let u = w in
-    let b = u in
-    let o = b in
-    let a = o in
-    worked-out _ _ _ _ _ _ a.requires.mendable _ _ _ _ a.requires.new_room _ _ _ o.copy_owners.ensures b.clear_barred.ensures u.clear_uneven.ensures _
-    w.copy_words.ensures _ _ _ _ f.from_slots.ensures
+    let m = c.requires.mendable in
+    let r = c.requires.new_room in
+    worked-out _ _ _ _ _ _ m _ _ _ _ r _ _ _ (copied-front _ _ _ _ m.owners-room r.owners c.copy_from_slice.ensures.after)
+    c.clear_barred.ensures c.clear_uneven.ensures _ (copied-front _ _ _ _ m.sets-room r.sets c.copy_from_slice-2.ensures.after) _ _ _ _
+    c.from_slots.ensures

@@ -7,8 +7,7 @@ use Rattle.owners.proofs.checks.lent_refusal.Goals as goal
 pub returns : goal.returns
 unfolding lent_row
 returns c =
-    let c8 = c in
-    checked _ refl c8.accepted.ensures
-    (link c8.check_people-f.ensures (link c8.check_slots-f.ensures (link c8.check-f.ensures (link c.check_room-f.ensures
+    checked _ refl c.accepted.ensures
+    (link c.check_people-f.ensures (link c.check_slots-f.ensures (link c.check-f.ensures (link c.check_room-f.ensures
     (link c.check_words-f.ensures (link c.check-f-2.ensures (link c.check_words-f-2.ensures (link c.check-f-3.ensures
     (link c.check-f-4.ensures (link c.check-f-5.ensures (link c.check_order.ensures ends)))))))))))

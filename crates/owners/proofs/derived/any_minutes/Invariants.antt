@@ -5,7 +5,4 @@ use Rattle.owners.proofs.derived.any_minutes.Given as goal
 
 abbrev pub invariant-loop-k : goal.invariant-loop-k
 invariant-loop-k l =
-    (l.a ≤ l.k) × (l.k - l.a ≤ l.e - l.a) × (l.total ≡ wrapped (stretch_minutes l.starts l.ends l.a l.k))
-
-abbrev pub decreases-loop-k : goal.decreases-loop-k
-decreases-loop-k l = l.e - l.k
+    (l.k - l.a ≤ l.e - l.a) × (l.total ≡ wrapped (stretch_minutes l.starts l.ends l.a l.k))

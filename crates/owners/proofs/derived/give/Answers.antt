@@ -8,11 +8,11 @@ use Rattle.owners.proofs.derived.give.Goals as goal
 pub returns-then-owner-eq-NOBODY : goal.returns-then-owner-eq-NOBODY
 unfolding given set_for more_at more_totals
 returns-then-owner-eq-NOBODY c =
-    let c8 = c in
-    let own = eq-eqb _ _ c8.if-owner-eq-NOBODY.true in
-    let x = c8.args in
+    let own = eq-eqb _ _ c.if-owner-eq-NOBODY.true in
+    let x = c.args in
     derived-same (simp own refl) (simp own refl)
-    (simp own (one_by_one (λ x y. wrapped (x + y)) x.totals.now _ _ _ _ _ c.more_at.ensures c.slots_in.ensures c.more_at-then-owner-eq-NOBODY.ensures))
+    (simp own (one_by_one (λ x y. wrapped (x + y)) x.totals.now _ _ _ _ _
+    c.more_at.ensures c.slots_in.ensures c.more_at-then-owner-eq-NOBODY.ensures))
 
 pub returns : goal.returns
 unfolding given set_for more_at more_totals

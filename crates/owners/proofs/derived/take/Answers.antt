@@ -8,9 +8,8 @@ use Rattle.owners.proofs.derived.take.Goals as goal
 pub returns-then-owner-eq-NOBODY : goal.returns-then-owner-eq-NOBODY
 unfolding taken set_for less_at less_totals
 returns-then-owner-eq-NOBODY c =
-    let c8 = c in
-    let own = eq-eqb _ _ c8.if-owner-eq-NOBODY.true in
-    let x = c8.args in
+    let own = eq-eqb _ _ c.if-owner-eq-NOBODY.true in
+    let x = c.args in
     derived-same (simp own refl) (simp own refl)
     (simp own (one_by_one ◌-◌ x.totals.now _ _ _ _ _ c.less_at.ensures c.slots_in.ensures c.less_at-then-owner-eq-NOBODY.ensures))
 

@@ -7,7 +7,6 @@ use Rattle.owners.proofs.entries.unassigned_refusal.Goals as goal
 pub returns : goal.returns
 unfolding unassigned_row
 returns c =
-    let b = c in
-    checked _ refl b.accepted.ensures
+    checked _ refl c.accepted.ensures
     (link c.check_people-f.ensures (link c.check_slots-f.ensures
     (link c.check-f.ensures (link c.check_known.ensures ends))))

@@ -1,7 +1,7 @@
 -- `owners::entries::uncovered_minutes` meets its contract. Assumes nothing.
 use Rattle.std.proofs.Common.{sym, ◌∙◌}
 use Rattle.paper.proofs.Rows.{said}
-use Rattle.slots.proofs.LentLaws.{minutes-is, minutes-refusal}
+use Rattle.slotset.proofs.Refusals.{answer-is, answer-refused}
 use Rattle.owners.specs.Derived.{plan, uncovered}
 use Rattle.owners.specs.Entries.{uncovered_is}
 use Rattle.owners.proofs.Entered.{uncovered-says}
@@ -16,8 +16,8 @@ worked_by-requires c =
 
 pub returns-then-n-eq0 : goal.returns-then-n-eq0
 unfolding uncovered_is uncovered
-returns-then-n-eq0 c = minutes-is _ _ (said _ c.uncovered_refusal-n.ensures) c.if-n-eq0.true _ _ c.worked_by.ensures
+returns-then-n-eq0 c = answer-is _ _ (said _ c.uncovered_refusal-n.ensures) c.if-n-eq0.true _ _ c.worked_by.ensures
 
 pub returns : goal.returns
 unfolding uncovered_is
-returns c = minutes-refusal _ _ (said _ c.uncovered_refusal-n.ensures) c.if-n-eq0.false _
+returns c = answer-refused _ _ (said _ c.uncovered_refusal-n.ensures) c.if-n-eq0.false _

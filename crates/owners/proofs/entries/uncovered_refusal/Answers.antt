@@ -7,7 +7,6 @@ use Rattle.owners.proofs.entries.uncovered_refusal.Goals as goal
 pub returns : goal.returns
 unfolding uncovered_row
 returns c =
-    let b = c in
-    checked _ refl b.accepted.ensures
-    (link b.check_people-f.ensures (link b.check_slots-f.ensures (link c.check_room-f.ensures
+    checked _ refl c.accepted.ensures
+    (link c.check_people-f.ensures (link c.check_slots-f.ensures (link c.check_room-f.ensures
     (link c.check-f.ensures (link c.check_order-f.ensures (link c.check_known.ensures ends))))))

@@ -14,7 +14,8 @@ returns-then-unavailable-slots c =
     let at-first-unknown = c.first_unknown-unknown in
     let at-if1 = c.if-unknown-slots in
     let at-first-unavailable = c.first_unavailable-unavailable in
-    refusal-unavailable _ _ _ _ _ _ _ _ at-first-unknown.ensures at-if1.false _ at-first-unavailable.ensures c.if-unavailable-slots.true c.refusal_in-then-unavailable-slots.ensures
+    refusal-unavailable _ _ _ _ _ _ _ _ at-first-unknown.ensures at-if1.false _ at-first-unavailable.ensures
+    c.if-unavailable-slots.true c.refusal_in-then-unavailable-slots.ensures
 
 pub returns-then-uneven-units : goal.returns-then-uneven-units
 returns-then-uneven-units c =
@@ -29,10 +30,8 @@ returns-then-uneven-units c =
 pub derived_refusal-requires : goal.derived_refusal-requires
 unfolding known_at
 derived_refusal-requires c =
-    let c8 = c in
-    let at_pre = c8.requires
-    in
-    let at-args = c8.args in
+    let at_pre = c.requires in
+    let at-args = c.args in
     let at-first-unknown = c.first_unknown-unknown in
     let R = at_pre.rota_room in record {
       plan_sound = at_pre.plan_sound;
@@ -41,11 +40,9 @@ derived_refusal-requires c =
         sets-room = R.sets-room;
         minutes-room = R.minutes-room;
         totals-room = R.totals-room;
-        known = λ k
-            h. all-each _ _ (first_passes at-args.slots (known_at at-args.people at-args.owners.now) (omega (
-              arith,
-              at-first-unknown.ensures,
-            ))) k h;
+        known = λ k h.
+            all-each _ _ (first_passes at-args.slots (known_at at-args.people at-args.owners.now)
+            (omega (arith, at-first-unknown.ensures))) k h;
       };
     }
 

@@ -7,8 +7,7 @@ use Rattle.owners.proofs.recounting.recount_slots.Goals as goal
 
 pub recount_refusal-requires : goal.recount_refusal-requires
 recount_refusal-requires c =
-    let c8 = c in
-    let x = c8.args in
+    let x = c.args in
     let g = lent-row-right _ _ (plan x.people x.slots x.starts.now x.ends.now) x.avail.now x.owners.now
     (derived x.sets.now x.minutes.now x.totals.now) (sym (said _ c.lent_refusal-f.ensures) ∙ c.if-f-eq0.true) in
     record { plan_sound = g.sound; rota_room = g.room }

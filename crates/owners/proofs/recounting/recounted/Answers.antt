@@ -5,8 +5,7 @@ use Rattle.owners.proofs.recounting.recounted.Goals as goal
 
 pub recount_refusal-requires : goal.recount_refusal-requires
 recount_refusal-requires c =
-    let c8 = c in
-    let x = c8.args in
+    let x = c.args in
     let g = front-right (plan x.people x.slots x.starts.now x.ends.now) x.avail.now x.units x.begins.now
     x.owners.now (derived x.sets.now x.minutes.now x.totals.now) _ _ _ _ c.lent_refusal-f.ensures c.check_units-g.ensures
     c.if-g-eq0.true in

@@ -1,10 +1,7 @@
 -- `owners::scan::count_nobody` meets its contract. Assumes nothing.
-use Rattle.std.proofs.Common.{◌≡◌, ◌-◌, ◌≤◌}
+use Rattle.std.proofs.Common.{◌≡◌}
 use Rattle.owners.specs.Derived.{unassigned}
 use Rattle.owners.proofs.scan.count_nobody.Given as goal
 
 abbrev pub invariant-loop-k : goal.invariant-loop-k
-invariant-loop-k l = (l.k ≤ l.slots) × (l.n ≡ unassigned l.k l.owners)
-
-abbrev pub decreases-loop-k : goal.decreases-loop-k
-decreases-loop-k l = l.slots - l.k
+invariant-loop-k l = l.n ≡ unassigned l.k l.owners

@@ -1,10 +1,7 @@
 -- `owners::scan::enough_people` meets its contract. Assumes nothing.
-use Rattle.std.proofs.Common.{◌≡◌, ℕ, ◌-◌, ◌<◌, ◌≤◌, true, get_or}
+use Rattle.std.proofs.Common.{◌≡◌, ℕ, ◌<◌, true, get_or}
 use Rattle.owners.specs.Derived.{known_by}
 use Rattle.owners.proofs.scan.enough_people.Given as goal
 
 abbrev pub invariant-loop-k : goal.invariant-loop-k
-invariant-loop-k l = (l.k ≤ l.slots) × ((j : ℕ) → j < l.k → known_by l.most (get_or l.owners j 0) ≡ true)
-
-abbrev pub decreases-loop-k : goal.decreases-loop-k
-decreases-loop-k l = l.slots - l.k
+invariant-loop-k l = (j : ℕ) → j < l.k → known_by l.most (get_or l.owners j 0) ≡ true

@@ -1,11 +1,8 @@
 -- `owners::scan::first_wrong_slot` meets its contract. Assumes nothing.
-use Rattle.std.proofs.Common.{◌≡◌, ◌-◌, ◌≤◌, true}
+use Rattle.std.proofs.Common.{◌≡◌, true}
 use Rattle.paper.specs.Count.{all}
 use Rattle.owners.specs.Recount.{set_slot_at}
 use Rattle.owners.proofs.scan.first_wrong_slot.Given as goal
 
 abbrev pub invariant-loop-k : goal.invariant-loop-k
-invariant-loop-k l = (l.k ≤ l.slots) × (all l.k (set_slot_at l.owners l.sets l.person) ≡ true)
-
-abbrev pub decreases-loop-k : goal.decreases-loop-k
-decreases-loop-k l = l.slots - l.k
+invariant-loop-k l = all l.k (set_slot_at l.owners l.sets l.person) ≡ true

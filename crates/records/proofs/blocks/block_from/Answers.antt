@@ -10,15 +10,6 @@ use Rattle.records.proofs.blocks.block_from.Goals as goal
 pub loop-count-init : goal.loop-count-init
 loop-count-init c = (omega (arith, zero-mul (4 + c.args.size)), omega arith, omega arith, all_none _)
 
-pub record_at-requires : goal.record_at-requires
-record_at-requires c = (c.loop-count.invariant.1, c.requires.1)
-
-pub overflow_add-count : goal.overflow_add-count
-overflow_add-count c = omega (arith, c.loop-count.invariant.1, c.loop-count.invariant.2)
-
-pub overflow_add-end : goal.overflow_add-end
-overflow_add-end c = omega (arith, c.requires)
-
 pub overflow_add-end-in-loop-count : goal.overflow_add-end-in-loop-count
 overflow_add-end-in-loop-count c = omega (arith, (record-says _ _ _ _ (sym c.record_at.ensures ∙ c.loop-count-test.true)).0)
 
@@ -27,15 +18,18 @@ loop-count-smaller c = omega (arith, (record-says _ _ _ _ (sym c.record_at.ensur
 
 pub loop-count-preserved : goal.loop-count-preserved
 loop-count-preserved c =
-    let l = c.loop-count in
+    let at = c.loop-count.invariant in
     let t = sym c.record_at.ensures ∙ c.loop-count-test.true in (
-      next-at _ _ _ _ l.invariant.0,
+      next-at _ _ _ _ at.0,
       omega (arith, (record-says _ _ _ _ t).0),
-      omega (arith, l.invariant.2),
-      block_more _ _ _ _ _ _
-          l.invariant.0 t l.invariant.3,
+      omega arith,
+      block_more _ _ _ _ _ _ at.0 t at.3,
     )
 
 pub returns : goal.returns
 returns c =
-    let l = c.loop-count in record { count_value = block-done _ _ _ _ _ _ l.invariant.0 l.invariant.1 (sym c.record_at.ensures ∙ c.loop-count-test.false) l.invariant.3; end_value = (l.invariant.0, l.invariant.1) }
+    let at = c.loop-count.invariant in
+    record {
+      count_value = block-done _ _ _ _ _ _ at.0 at.1 (sym c.record_at.ensures ∙ c.loop-count-test.false) at.3;
+      end_value = (at.0, at.1);
+    }

@@ -1,6 +1,5 @@
 -- `records::blocks::record_at` meets its contract. Assumes nothing.
-use native.Mathlib.Omega.{arith}
-use mathlib.Core.Path.{sym}
+use Rattle.std.proofs.Common.{sym, ◌∙◌, arith, ne_eqb}
 use Rattle.records.proofs.Walks.{record-short, record-kind, record-size}
 use Rattle.records.proofs.blocks.record_at.Goals as goal
 
@@ -11,5 +10,6 @@ pub returns-then-number_at-size : goal.returns-then-number_at-size
 returns-then-number_at-size c =
     record-kind _ _ _ _ _ _ (omega arith) c.number_at.ensures.0 c.number_at-then-number_at-size.ensures.0 c.if-number_at-size.true
 
-pub returns : goal.returns
-returns c = record-size _ _ _ _ _ (omega arith) c.number_at.ensures.0 c.if-number_at-size.false
+pub returns-else-number_at-size : goal.returns-else-number_at-size
+returns-else-number_at-size c =
+    ne_eqb _ _ c.if-number_at-size.false ∙ record-size _ _ _ _ _ (omega arith) c.number_at.ensures.0 c.if-number_at-size.false

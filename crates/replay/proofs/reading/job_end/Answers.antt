@@ -40,10 +40,9 @@ overflow_sub-s-in-loop-at-2 c = omega arith
 
 pub returns-then-s-at : goal.returns-then-s-at
 returns-then-s-at c =
-    let b = c in
-    let l = b.loop-at in
-    let k = two_is _ _ _ b.field-kind.ensures.0 (omega arith) in
-    let f = opens-other _ _ (λ e. b.if-kind-eq8.false (k ∙ e)) (λ e. c.if-kind-eq9.false (k ∙ e)) in
+    let l = c.loop-at in
+    let k = two_is _ _ _ c.field-kind.ensures.0 (omega arith) in
+    let f = opens-other _ _ (λ e. c.if-kind-eq8.false (k ∙ e)) (λ e. c.if-kind-eq9.false (k ∙ e)) in
     heading-cut _ _ _ l.invariant.0 (omega arith) f (two_is _ _ _ c.field-size.ensures.0 (omega arith)) (omega arith)
 
 pub overflow_add-at-in-loop-at : goal.overflow_add-at-in-loop-at
@@ -57,10 +56,9 @@ loop-at-smaller c = omega arith
 
 pub loop-at-preserved : goal.loop-at-preserved
 loop-at-preserved c =
-    let b = c in
-    let l = b.loop-at in
-    let k = two_is _ _ _ b.field-kind.ensures.0 (omega arith) in
-    let f = opens-other _ _ (λ e. b.if-kind-eq8.false (k ∙ e)) (λ e. c.if-kind-eq9.false (k ∙ e)) in (
+    let l = c.loop-at in
+    let k = two_is _ _ _ c.field-kind.ensures.0 (omega arith) in
+    let f = opens-other _ _ (λ e. c.if-kind-eq8.false (k ∙ e)) (λ e. c.if-kind-eq9.false (k ∙ e)) in (
       heading-more _ _ l.invariant.0 _ (omega arith) f (two_is _ _ _ c.field-size.ensures.0 (omega arith)),
       omega arith,
     )

@@ -1,7 +1,7 @@
 -- `replay::reading::leading_draws` meets its contract. Assumes nothing.
 use native.Mathlib.Omega.{arith}
-use mathlib.Core.Path.{sym, ◌∙◌}
-use Rattle.replay.proofs.Records.{leading-none, leading-more, leading-stops, leading-full}
+use mathlib.Core.Path.{◌≡◌, sym, subst, ◌∙◌}
+use Rattle.replay.proofs.Records.{Leading, leading-none, leading-more, leading-stops, leading-full}
 use Rattle.replay.proofs.reading.leading_draws.Goals as goal
 
 pub loop-n-init : goal.loop-n-init
@@ -10,19 +10,16 @@ loop-n-init c = leading-none _ _
 pub draw_fine-requires : goal.draw_fine-requires
 draw_fine-requires c = omega arith
 
-pub overflow_add-n : goal.overflow_add-n
-overflow_add-n c = omega arith
-
-pub loop-n-smaller : goal.loop-n-smaller
-loop-n-smaller c = omega arith
-
 pub loop-n-preserved : goal.loop-n-preserved
-loop-n-preserved c = leading-more _ _ _ c.loop-n.invariant (omega arith) (sym c.draw_fine.ensures ∙ c.if-draw_fine.true)
+loop-n-preserved c = leading-more _ _ _ c.loop-n.invariant (omega arith) (sym c.draw_fine.ensures ∙ c.if-not-draw_fine.false)
 
-pub returns-else-draw_fine : goal.returns-else-draw_fine
-returns-else-draw_fine c =
+pub returns-then-not-draw_fine : goal.returns-then-not-draw_fine
+returns-then-not-draw_fine c =
     let L = c.loop-n.invariant in
-    (leading-stops _ _ _ L (sym c.draw_fine.ensures ∙ c.if-draw_fine.false), L.few, L.room)
+    (leading-stops _ _ _ L (sym c.draw_fine.ensures ∙ c.if-not-draw_fine.true), L.few, L.room)
 
 pub returns : goal.returns
-returns c = let L = c.loop-n.invariant in (leading-full _ _ _ L (omega arith), L.few, L.room)
+returns c =
+    let e : c.loop-n.n ≡ 1024 = omega (arith, c.loop-n.invariant.few) in
+    let L : Leading c.args.t.now c.args.blocks 1024 = subst (Leading _ _) e c.loop-n.invariant in
+    (leading-full _ _ _ L (omega arith), L.few, L.room)

@@ -16,45 +16,36 @@ columns_room-requires c = search rules
 
 pub read_fields-requires : goal.read_fields-requires
 read_fields-requires c =
-    let i = c in
-    let d = i in
-    let room = room_says _ _ _ _ _ (sym i.columns_room.ensures ∙ i.if-columns_room.true) in (
-      omega (arith, d.draws_in-n.ensures, d.block_at-r.ensures.1),
-      omega (arith, d.draws_in-n.ensures, d.block_at-r.ensures.2),
+    let room = room_says _ _ _ _ _ (sym c.columns_room.ensures ∙ c.if-columns_room.true) in (
+      omega (arith, c.draws_in-n.ensures, c.block_at-r.ensures.1),
+      omega (arith, c.draws_in-n.ensures, c.block_at-r.ensures.2),
       omega arith,
       room.0,
     )
 
 pub read_fields-requires-then-columns_room : goal.read_fields-requires-then-columns_room
 read_fields-requires-then-columns_room c =
-    let i = c in
-    let d = i in
-    let room = room_says _ _ _ _ _ (sym i.columns_room.ensures ∙ i.if-columns_room.true) in (
-      omega (arith, d.draws_in-n.ensures, d.block_at-r.ensures.1),
-      omega (arith, d.draws_in-n.ensures, d.block_at-r.ensures.2),
+    let room = room_says _ _ _ _ _ (sym c.columns_room.ensures ∙ c.if-columns_room.true) in (
+      omega (arith, c.draws_in-n.ensures, c.block_at-r.ensures.1),
+      omega (arith, c.draws_in-n.ensures, c.block_at-r.ensures.2),
       omega arith,
       room.1,
     )
 
 pub read_fields-requires-then-columns_room-2 : goal.read_fields-requires-then-columns_room-2
 read_fields-requires-then-columns_room-2 c =
-    let i = c in
-    let d = i in
-    let room = room_says _ _ _ _ _ (sym i.columns_room.ensures ∙ i.if-columns_room.true) in (
-      omega (arith, d.draws_in-n.ensures, d.block_at-r.ensures.1),
-      omega (arith, d.draws_in-n.ensures, d.block_at-r.ensures.2),
+    let room = room_says _ _ _ _ _ (sym c.columns_room.ensures ∙ c.if-columns_room.true) in (
+      omega (arith, c.draws_in-n.ensures, c.block_at-r.ensures.1),
+      omega (arith, c.draws_in-n.ensures, c.block_at-r.ensures.2),
       omega arith,
       room.2,
     )
 
 pub read_fields-requires-then-columns_room-3 : goal.read_fields-requires-then-columns_room-3
 read_fields-requires-then-columns_room-3 c =
-    let c8 = c in
-    let i = c8 in
-    let d = i in
-    let room = room_says _ _ _ _ _ (sym i.columns_room.ensures ∙ i.if-columns_room.true) in (
-      omega (arith, d.draws_in-n.ensures, d.block_at-r.ensures.1),
-      omega (arith, d.draws_in-n.ensures, d.block_at-r.ensures.2),
+    let room = room_says _ _ _ _ _ (sym c.columns_room.ensures ∙ c.if-columns_room.true) in (
+      omega (arith, c.draws_in-n.ensures, c.block_at-r.ensures.1),
+      omega (arith, c.draws_in-n.ensures, c.block_at-r.ensures.2),
       omega arith,
       room.3,
     )
@@ -73,13 +64,9 @@ shape_of-recorded-then-columns_room c = search rules
 
 pub returns-then-columns_room : goal.returns-then-columns_room
 returns-then-columns_room c =
-    let c6 = c in
-    let c14 = c6 in
-    let i = c14 in
-    let d = i in
-    reads_all _ _ _ _ _ _ _ d.block_at-r.ensures.0 _ d.draws_in-n.ensures _ _ _ _
-    (sym i.columns_room.ensures ∙ i.if-columns_room.true) c14.read_fields.ensures c6.read_fields-then-columns_room.ensures
-    c6.read_fields-then-columns_room-2.ensures c.read_fields-then-columns_room-3.ensures
+    reads_all _ _ _ _ _ _ _ c.block_at-r.ensures.0 _ c.draws_in-n.ensures _ _ _ _
+    (sym c.columns_room.ensures ∙ c.if-columns_room.true) c.read_fields.ensures c.read_fields-then-columns_room.ensures
+    c.read_fields-then-columns_room-2.ensures c.read_fields-then-columns_room-3.ensures
 
 pub shape_of-draws : goal.shape_of-draws
 shape_of-draws c = search rules
@@ -95,5 +82,4 @@ shape_of-recorded c = search rules
 
 pub returns : goal.returns
 returns c =
-    let d = c in
-    reads_short _ _ _ _ _ _ _ d.block_at-r.ensures.0 _ d.draws_in-n.ensures (sym c.columns_room.ensures ∙ c.if-columns_room.false)
+    reads_short _ _ _ _ _ _ _ c.block_at-r.ensures.0 _ c.draws_in-n.ensures (sym c.columns_room.ensures ∙ c.if-columns_room.false)

@@ -25,12 +25,6 @@ offset_bounds-out-j c = omega arith
 pub bounds-out-j : goal.bounds-out-j
 bounds-out-j c = omega (arith, fields-length _ _ _ _ _ c.loop-j.invariant.0)
 
-pub overflow_add-j-in-loop-j : goal.overflow_add-j-in-loop-j
-overflow_add-j-in-loop-j c = omega arith
-
-pub loop-j-smaller : goal.loop-j-smaller
-loop-j-smaller c = omega arith
-
 pub loop-j-preserved : goal.loop-j-preserved
 loop-j-preserved c = (fields-more _ _ _ _ _ _ c.loop-j.invariant.0 c.field.ensures.0 (omega arith), omega arith)
 

@@ -12,22 +12,20 @@ enum_known-answer c = search rules
 pub enum_told-1 : goal.enum_told-1
 enum_told-1 c = search rules
 
-pub shape_of-out-in-Length : goal.shape_of-out-in-Length
-shape_of-out-in-Length c = search rules
+pub shape_of-out-in-Ok : goal.shape_of-out-in-Ok
+shape_of-out-in-Ok c = search rules
 
-pub returns-in-Length : goal.returns-in-Length
-returns-in-Length c =
-    let c8 = c in
-    let a = c8.args in
+pub returns-in-Ok : goal.returns-in-Ok
+returns-in-Ok c =
+    let a = c.args in
     show-wrote a.block a.people a.slots a.starts.now a.ends.now a.owners.now a.minutes.now a.targets.now a.out.now
-    c8.requires _ _ c.put_block-answer.ensures _ c.in-Length.is
+    c.requires _ _ c.put_block-answer.ensures _ c.in-Ok.is
 
-pub shape_of-out-in-Refused : goal.shape_of-out-in-Refused
-shape_of-out-in-Refused c = search rules
+pub shape_of-out-in-Err : goal.shape_of-out-in-Err
+shape_of-out-in-Err c = search rules
 
-pub returns-in-Refused : goal.returns-in-Refused
-returns-in-Refused c =
-    let c8 = c in
-    let a = c8.args in
+pub returns-in-Err : goal.returns-in-Err
+returns-in-Err c =
+    let a = c.args in
     absurd (show-not a.block a.people a.slots a.starts.now a.ends.now a.owners.now a.minutes.now a.targets.now a.out.now
-    c8.requires _ _ c.put_block-answer.ensures _ c.in-Refused.is)
+    c.requires _ _ c.put_block-answer.ensures _ c.in-Err.is)

@@ -8,16 +8,15 @@ use Rattle.retire.proofs.asking.asked_refusal.Goals as goal
 pub returns : goal.returns
 unfolding asked_row range_count_ok
 returns c =
-    let b = c in
-    checked _ refl b.accepted.ensures
-    (link b.check_people-f.ensures
-    (link b.check_slots-f.ensures
-    (link b.check-f.ensures
-    (link b.check-f-2.ensures
-    (link b.check_room-f.ensures
-    (link b.check_words-f.ensures
-    (link b.check-f-3.ensures
-    (link b.check-f-4.ensures (link b.check-f-5.ensures
-    (link b.check-f-6.ensures (link b.check_words-f-2.ensures (link b.check-f-7.ensures
-    (link b.check-f-8.ensures (link c.check-f-9.ensures (link c.check-f-10.ensures
-    (link c.check_room-f-2.ensures (link (renamed _ 2 c.check.ensures b.range_room_ok-ranged.ensures) ends)))))))))))))))))
+    checked _ refl c.accepted.ensures
+    (link c.check_people-f.ensures
+    (link c.check_slots-f.ensures
+    (link c.check-f.ensures
+    (link c.check-f-2.ensures
+    (link c.check_room-f.ensures
+    (link c.check_words-f.ensures
+    (link c.check-f-3.ensures
+    (link c.check-f-4.ensures (link c.check-f-5.ensures
+    (link c.check-f-6.ensures (link c.check_words-f-2.ensures (link c.check-f-7.ensures
+    (link c.check-f-8.ensures (link c.check-f-9.ensures (link c.check-f-10.ensures
+    (link c.check_room-f-2.ensures (link (renamed _ 2 c.check.ensures c.range_room_ok-ranged.ensures) ends)))))))))))))))))

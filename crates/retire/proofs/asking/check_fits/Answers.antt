@@ -5,13 +5,13 @@ use Rattle.retire.proofs.News.{fits_by, count_most}
 use Rattle.retire.proofs.asking.check_fits.Goals as goal
 
 pub fresh_slots-fresh-requires : goal.fresh_slots-fresh-requires
-fresh_slots-fresh-requires c = c.requires.1 c.if-before-eq0.true
+fresh_slots-fresh-requires c = c.requires.1 c.if-before-ne0.false
 
 pub fits-requires : goal.fits-requires
 fits-requires c = (c.requires.0, count_most _ _ _ c.fresh_slots-fresh.ensures.0)
 
-pub returns-then-before-eq0 : goal.returns-then-before-eq0
-returns-then-before-eq0 c = renamed _ 5 c.check.ensures (c.fits.ensures ∙ fits_by c.args.fault c.args.kept _ _ _ c.fresh_slots-fresh.ensures.0)
-
 pub returns : goal.returns
-returns c = skipped _ _ c.if-before-eq0.false
+returns c = renamed _ 5 c.check.ensures (c.fits.ensures ∙ fits_by c.args.fault c.args.kept _ _ _ c.fresh_slots-fresh.ensures.0)
+
+pub returns-then-before-ne0 : goal.returns-then-before-ne0
+returns-then-before-ne0 c = skipped _ _ c.if-before-ne0.true

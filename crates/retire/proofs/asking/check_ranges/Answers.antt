@@ -2,8 +2,8 @@
 use Rattle.paper.proofs.Rows.{skipped, renamed}
 use Rattle.retire.proofs.asking.check_ranges.Goals as goal
 
-pub returns-then-before-eq0 : goal.returns-then-before-eq0
-returns-then-before-eq0 c = renamed _ 4 c.check.ensures c.ranges_ok.ensures
-
 pub returns : goal.returns
-returns c = skipped _ _ c.if-before-eq0.false
+returns c = renamed _ 4 c.check.ensures c.ranges_ok.ensures
+
+pub returns-then-before-ne0 : goal.returns-then-before-ne0
+returns-then-before-ne0 c = skipped _ _ c.if-before-ne0.true

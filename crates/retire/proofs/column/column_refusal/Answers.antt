@@ -9,7 +9,6 @@ use Rattle.retire.proofs.column.column_refusal.Goals as goal
 pub returns : goal.returns
 unfolding column_row
 returns c =
-    let b = c in
-    checked _ refl b.accepted.ensures
-    (link b.check_slots-f.ensures (link b.check_slots-f-2.ensures (link c.check-f.ensures
-    (link (renamed _ 1 c.check-f-2.ensures (ap (λ (x : ℕ). leb x b.args.count) b.left-kept.ensures)) (link c.check-f-3.ensures (link c.check.ensures ends))))))
+    checked _ refl c.accepted.ensures
+    (link c.check_slots-f.ensures (link c.check_slots-f-2.ensures (link c.check-f.ensures
+    (link (renamed _ 1 c.check-f-2.ensures (ap (λ (x : ℕ). leb x c.args.count) c.saturating_sub-kept.ensures)) (link c.check-f-3.ensures (link c.check.ensures ends))))))

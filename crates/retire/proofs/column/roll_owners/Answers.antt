@@ -1,27 +1,9 @@
 -- `retire::column::roll_owners` meets its contract. Assumes nothing.
-use mathlib.Core.Path.{refl}
-use native.Mathlib.Omega.{arith}
-use Rattle.paper.specs.Limits.{nobody}
-use Rattle.retire.proofs.Rolls.{roll-none, roll-length, roll-old, roll-new, roll-done}
+use Rattle.std.proofs.Common.{refl, arith}
+use Rattle.retire.proofs.Rolls.{moved, roll_parts}
 use Rattle.retire.proofs.column.roll_owners.Goals as goal
 
-pub loop-k-init : goal.loop-k-init
-loop-k-init c = (omega arith, roll-none _ _ _ _, refl)
-
-pub loop-k-preserved-then-k-kept : goal.loop-k-preserved-then-k-kept
-loop-k-preserved-then-k-kept c =
-    let at = c.loop-k in
-    let next = roll-old _ _ _ _ _ _ _ at.invariant.1 c.if-k-kept.true refl in
-    (omega arith, next, roll-length _ _ _ _ _ _ next)
-
-pub loop-k-preserved : goal.loop-k-preserved
-loop-k-preserved c =
-    let at = c.loop-k in
-    let next = roll-new _ _ (λ _. nobody) _ _ _ _ at.invariant.1 c.if-k-kept.false refl in
-    (omega arith, next, roll-length _ _ _ _ _ _ next)
-
-pub shape_of-owners : goal.shape_of-owners
-shape_of-owners c = c.loop-k.invariant.2
-
 pub returns : goal.returns
-returns c = roll-done _ _ _ _ _ _ _ c.loop-k.invariant.1 c.loop-k.invariant.0 c.loop-k-test.false
+returns c =
+    let M = moved _ _ _ _ c.copy_within.ensures.len c.copy_within.ensures.by_index.0 c.copy_within.ensures.by_index.2 in
+    roll_parts _ _ _ _ _ _ _ _ c.min-rest.ensures (omega arith) M c.fill.ensures.len (λ k h. c.fill.ensures.clones k 0 h refl)

@@ -1,6 +1,5 @@
 -- `retire::figures::add_priors` meets its contract. Assumes nothing.
 use mathlib.Core.Path.{◌≡◌}
-use Prim.Native.Nat.{◌-◌, ◌≤◌}
 use Rattle.paper.specs.Count.{over}
 use Rattle.owners.specs.Derived.{plan}
 use Rattle.retire.specs.Going.{prior_then}
@@ -8,7 +7,4 @@ use Rattle.retire.proofs.figures.add_priors.Given as goal
 
 abbrev pub invariant-loop-p : goal.invariant-loop-p
 invariant-loop-p l =
-    (l.p ≤ l.people) × (l.priors ≡ over (prior_then (plan l.people l.gone l.starts l.ends) l.owners l.initial.priors l.gone) l.p l.initial.priors)
-
-abbrev pub decreases-loop-p : goal.decreases-loop-p
-decreases-loop-p l = l.people - l.p
+    l.priors ≡ over (prior_then (plan l.people l.gone l.starts l.ends) l.owners l.initial.priors l.gone) l.p l.initial.priors

@@ -1,6 +1,6 @@
 -- `retire::figures::minutes_gone` meets its contract. Assumes nothing.
 use mathlib.Core.Path.{◌≡◌}
-use Prim.Native.Nat.{◌-◌, ◌*◌, ◌≤◌}
+use Prim.Native.Nat.{◌*◌, ◌≤◌}
 use lib.ListN.{get_or}
 use Rattle.paper.specs.Count.{sum}
 use Rattle.slots.specs.Lent.{minutes_at}
@@ -9,7 +9,4 @@ use Rattle.retire.proofs.figures.minutes_gone.Given as goal
 
 abbrev pub invariant-loop-k : goal.invariant-loop-k
 invariant-loop-k l =
-    (l.k ≤ l.gone) × (l.total ≤ l.k * 4294967295) × (l.total ≡ sum l.k (λ j. portion (get_or l.owners j 0) l.person (minutes_at l.starts l.ends j)))
-
-abbrev pub decreases-loop-k : goal.decreases-loop-k
-decreases-loop-k l = l.gone - l.k
+    (l.total ≤ l.k * 4294967295) × (l.total ≡ sum l.k (λ j. portion (get_or l.owners j 0) l.person (minutes_at l.starts l.ends j)))

@@ -6,8 +6,8 @@ use Rattle.retire.proofs.figures.portion_of.Goals as goal
 
 pub returns-then-owner-person : goal.returns-then-owner-person
 unfolding portion
-returns-then-owner-person c = (simp (eq-eqb _ _ c.if-owner-person.true), omega arith)
+returns-then-owner-person c = (simp (eq-eqb _ _ c.if-owner-person.true) c.from.ensures, omega (arith, c.from.ensures))
 
-pub returns : goal.returns
+pub returns-else-owner-person : goal.returns-else-owner-person
 unfolding portion
-returns c = (simp (ne_eqb _ _ c.if-owner-person.false), omega arith)
+returns-else-owner-person c = (simp (ne_eqb _ _ c.if-owner-person.false), omega arith)

@@ -1,7 +1,6 @@
 -- `retire::figures::priors_ok` meets its contract. Assumes nothing.
 use mathlib.Core.Path.{◌≡◌}
 use mathlib.Core.Bool.{true}
-use Prim.Native.Nat.{◌-◌, ◌≤◌}
 use lib.Dec.{leb}
 use Rattle.paper.specs.Limits.{last_minute}
 use Rattle.paper.specs.Count.{all}
@@ -9,7 +8,4 @@ use Rattle.retire.specs.Rolled.{entry}
 use Rattle.retire.proofs.figures.priors_ok.Given as goal
 
 abbrev pub invariant-loop-p : goal.invariant-loop-p
-invariant-loop-p l = (l.p ≤ l.people) × (all l.p (λ q. leb (entry l.priors q) last_minute) ≡ true)
-
-abbrev pub decreases-loop-p : goal.decreases-loop-p
-decreases-loop-p l = l.people - l.p
+invariant-loop-p l = all l.p (λ q. leb (entry l.priors q) last_minute) ≡ true

@@ -1,7 +1,6 @@
 -- `retire::figures::priors_then_ok` meets its contract. Assumes nothing.
 use mathlib.Core.Path.{◌≡◌}
 use mathlib.Core.Bool.{true}
-use Prim.Native.Nat.{◌-◌, ◌≤◌}
 use lib.Dec.{leb}
 use Rattle.paper.specs.Limits.{last_minute}
 use Rattle.paper.specs.Count.{all}
@@ -11,7 +10,4 @@ use Rattle.retire.proofs.figures.priors_then_ok.Given as goal
 
 abbrev pub invariant-loop-p : goal.invariant-loop-p
 invariant-loop-p l =
-    (l.p ≤ l.people) × (all l.p (λ q. leb (prior_then (plan l.people l.gone l.starts l.ends) l.owners l.priors l.gone q) last_minute) ≡ true)
-
-abbrev pub decreases-loop-p : goal.decreases-loop-p
-decreases-loop-p l = l.people - l.p
+    all l.p (λ q. leb (prior_then (plan l.people l.gone l.starts l.ends) l.owners l.priors l.gone q) last_minute) ≡ true

@@ -6,7 +6,6 @@ use Rattle.retire.proofs.fresh.ranges_ok.Goals as goal
 
 pub returns : goal.returns
 returns c =
-    let b = c in
-    let pre = b.requires in
+    let pre = c.requires in
     c.is_number.ensures
     ∙ ranges-by _ _ _ _ _ (says-people _ pre.1 pre.0) pre.2 pre.3 (search rules) (search rules) (search rules) _ c.merged_ranges.ensures.said

@@ -7,7 +7,4 @@ use Rattle.retire.specs.Going.{is_frozen}
 use Rattle.retire.proofs.going.all_frozen.Given as goal
 
 abbrev pub invariant-loop-k : goal.invariant-loop-k
-invariant-loop-k l = (l.a ≤ l.k) × (l.k - l.a ≤ l.e - l.a) × (all_in l.a l.k (is_frozen l.frozen) ≡ true)
-
-abbrev pub decreases-loop-k : goal.decreases-loop-k
-decreases-loop-k l = l.e - l.k
+invariant-loop-k l = (l.k - l.a ≤ l.e - l.a) × (all_in l.a l.k (is_frozen l.frozen) ≡ true)

@@ -1,13 +1,9 @@
 -- `retire::going::gone_units` meets its contract. Assumes nothing.
 use mathlib.Core.Path.{◌≡◌}
 use mathlib.Core.Bool.{true}
-use Prim.Native.Nat.{◌-◌, ◌≤◌}
 use Rattle.paper.specs.Count.{all}
 use Rattle.retire.specs.Going.{frozen_whole}
 use Rattle.retire.proofs.going.gone_units.Given as goal
 
 abbrev pub invariant-loop-u : goal.invariant-loop-u
-invariant-loop-u l = (l.u ≤ l.units) × (all l.u (frozen_whole l.slots l.units l.begins l.frozen) ≡ true)
-
-abbrev pub decreases-loop-u : goal.decreases-loop-u
-decreases-loop-u l = l.units - l.u
+invariant-loop-u l = all l.u (frozen_whole l.slots l.units l.begins l.frozen) ≡ true

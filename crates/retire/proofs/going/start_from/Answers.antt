@@ -8,6 +8,6 @@ pub returns-then-unit-units : goal.returns-then-unit-units
 unfolding start_from
 returns-then-unit-units c = c.start_of.ensures ∙ simp (lt-ltb _ _ c.if-unit-units.true)
 
-pub returns : goal.returns
+pub returns-else-unit-units : goal.returns-else-unit-units
 unfolding start_from
-returns c = simp (le-ltb _ _ c.if-unit-units.false)
+returns-else-unit-units c = simp (le-ltb _ _ c.if-unit-units.false)

@@ -7,11 +7,10 @@ use Rattle.retire.proofs.moving.move_plan.Goals as goal
 
 pub overflow_sub-kept : goal.overflow_sub-kept
 overflow_sub-kept c =
-    let b = c in
     omega (
       arith,
       c.start_from-gone.ensures,
-      gone-few b.args.slots b.args.units b.args.begins.now b.args.went b.requires.plan_right.units-ok,
+      gone-few c.args.slots c.args.units c.args.begins.now c.args.went c.requires.plan_right.units-ok,
     )
 
 pub overflow_sub-left : goal.overflow_sub-left
@@ -30,8 +29,8 @@ fresh_units-some-requires c =
     let r = right-then _ _ pre.plan_right _ _ _ W.0 W.1 in
     (r.base-few, r.base_ok, pre.plan_right.settings-ok)
 
-pub overflow_add-kept : goal.overflow_add-kept
-overflow_add-kept c =
+pub overflow_add-slots : goal.overflow_add-slots
+overflow_add-slots c =
     let pre = c.requires in
     let W = c.fresh_slots-fresh.ensures in
     let R = rooms _ _ pre.plan_right _ _ _ W.0 W.1 _ _ pre.went_value c.start_from-gone.ensures in
@@ -44,13 +43,6 @@ roll_frozen-requires c =
     let R = rooms _ _ pre.plan_right _ _ _ W.0 W.1 _ _ pre.went_value c.start_from-gone.ensures in
     (pre.plan_right.frozen-room, R.total, R.moved)
 
-pub overflow_add-kept-2 : goal.overflow_add-kept-2
-overflow_add-kept-2 c =
-    let pre = c.requires in
-    let W = c.fresh_slots-fresh.ensures in
-    let R = rooms _ _ pre.plan_right _ _ _ W.0 W.1 _ _ pre.went_value c.start_from-gone.ensures in
-    omega (arith, R.total)
-
 pub roll_rows-requires : goal.roll_rows-requires
 roll_rows-requires c =
     let pre = c.requires in
@@ -58,8 +50,8 @@ roll_rows-requires c =
     let R = rooms _ _ pre.plan_right _ _ _ W.0 W.1 _ _ pre.went_value c.start_from-gone.ensures in
     record { people_value = (pre.plan_right.people-ok, pre.plan_right.avail-room); count_bound = (R.total, R.moved) }
 
-pub overflow_add-left : goal.overflow_add-left
-overflow_add-left c =
+pub overflow_add-units : goal.overflow_add-units
+overflow_add-units c =
     let pre = c.requires in
     let W = c.fresh_slots-fresh.ensures in
     let R = rooms _ _ pre.plan_right _ _ _ W.0 W.1 _ _ pre.went_value c.start_from-gone.ensures in
@@ -82,13 +74,6 @@ roll_begins-requires c =
       );
     }
 
-pub overflow_add-kept-3 : goal.overflow_add-kept-3
-overflow_add-kept-3 c =
-    let pre = c.requires in
-    let W = c.fresh_slots-fresh.ensures in
-    let R = rooms _ _ pre.plan_right _ _ _ W.0 W.1 _ _ pre.went_value c.start_from-gone.ensures in
-    omega (arith, R.total)
-
 pub slice_bounds-roll_minutes-end : goal.slice_bounds-roll_minutes-end
 slice_bounds-roll_minutes-end c =
     let pre = c.requires in
@@ -110,13 +95,6 @@ roll_minutes-requires c =
     let R = rooms _ _ pre.plan_right _ _ _ W.0 W.1 _ _ pre.went_value c.start_from-gone.ensures in
     (omega (arith, R.moved, pre.plan_right.starts-room), omega (arith, R.total, pre.plan_right.starts-room), omega (arith, R.new, R.starts-long))
 
-pub overflow_add-kept-4 : goal.overflow_add-kept-4
-overflow_add-kept-4 c =
-    let pre = c.requires in
-    let W = c.fresh_slots-fresh.ensures in
-    let R = rooms _ _ pre.plan_right _ _ _ W.0 W.1 _ _ pre.went_value c.start_from-gone.ensures in
-    omega (arith, R.total)
-
 pub roll_minutes-requires-2 : goal.roll_minutes-requires-2
 roll_minutes-requires-2 c =
     let pre = c.requires in
@@ -124,27 +102,10 @@ roll_minutes-requires-2 c =
     let R = rooms _ _ pre.plan_right _ _ _ W.0 W.1 _ _ pre.went_value c.start_from-gone.ensures in
     (omega (arith, R.moved, pre.plan_right.ends-room), omega (arith, R.total, pre.plan_right.ends-room), omega (arith, R.new, R.ends-long))
 
-pub overflow_add-result : goal.overflow_add-result
-overflow_add-result c =
-    let pre = c.requires in
-    let W = c.fresh_slots-fresh.ensures in
-    let R = rooms _ _ pre.plan_right _ _ _ W.0 W.1 _ _ pre.went_value c.start_from-gone.ensures in
-    omega (arith, R.total)
-
-pub overflow_add-result-2 : goal.overflow_add-result-2
-overflow_add-result-2 c =
-    let pre = c.requires in
-    let W = c.fresh_slots-fresh.ensures in
-    let R = rooms _ _ pre.plan_right _ _ _ W.0 W.1 _ _ pre.went_value c.start_from-gone.ensures in
-    let U = c.fresh_units-some.ensures in
-    let few = unit-room _ _ pre.plan_right _ _ _ W.0 W.1 _ _ pre.went_value c.start_from-gone.ensures _ _ U in
-    omega (arith, few)
-
 pub returns : goal.returns
 returns c =
-    let b = c in
-    let pre = b.requires in
-    let W = b.fresh_slots-fresh.ensures in
-    plan-moved _ _ pre.plan_right _ _ _ W.0 W.1 _ _ pre.went_value b.start_from-gone.ensures _ _ c.fresh_units-some.ensures _ _ _ _ _ _
+    let pre = c.requires in
+    let W = c.fresh_slots-fresh.ensures in
+    plan-moved _ _ pre.plan_right _ _ _ W.0 W.1 _ _ pre.went_value c.start_from-gone.ensures _ _ c.fresh_units-some.ensures _ _ _ _ _ _
     c.fresh_words-words.ensures c.roll_minutes.ensures c.roll_minutes-2.ensures c.roll_rows.ensures
     c.roll_begins.ensures c.roll_frozen.ensures

@@ -1,33 +1,11 @@
 -- `retire::rolling::roll_minutes` meets its contract. Assumes nothing.
-use mathlib.Core.Path.{refl}
-use native.Mathlib.Omega.{arith}
-use Rattle.retire.specs.Rolled.{entry}
-use Rattle.retire.proofs.Rolls.{roll-none, roll-length, roll-old, roll-new, roll-done}
+use Rattle.std.proofs.Common.{arith}
+use Rattle.std.proofs.lemmas.List.{places}
+use Rattle.retire.proofs.Rolls.{moved, roll_parts}
 use Rattle.retire.proofs.rolling.roll_minutes.Goals as goal
 
-pub loop-k-init : goal.loop-k-init
-loop-k-init c = (omega arith, roll-none _ _ _ _, refl)
-
-pub loop-k-preserved-then-k-kept : goal.loop-k-preserved-then-k-kept
-loop-k-preserved-then-k-kept c =
-    let at = c.loop-k in
-    let next = roll-old _ _ _ _ _ _ _ at.invariant.1 c.if-k-kept.true refl in
-    (omega arith, next, roll-length _ _ _ _ _ _ next)
-
-pub loop-k-preserved : goal.loop-k-preserved
-loop-k-preserved c =
-    let at = c.loop-k in
-    let next = roll-new _ _ (entry c.args.fresh.now) _ _ _ _ at.invariant.1 c.if-k-kept.false refl in
-    (omega arith, next, roll-length _ _ _ _ _ _ next)
-
-pub shape_of-column : goal.shape_of-column
-shape_of-column c = c.loop-k.invariant.2
-
 pub returns : goal.returns
-returns c = roll-done _ _ _ _ _ _ _ c.loop-k.invariant.1 c.loop-k.invariant.0 c.loop-k-test.false
-
-pub loop-k-smaller-then-k-kept : goal.loop-k-smaller-then-k-kept
-loop-k-smaller-then-k-kept c = omega arith
-
-pub loop-k-smaller : goal.loop-k-smaller
-loop-k-smaller c = omega arith
+returns c =
+    let M = moved _ _ _ _ c.copy_within.ensures.len c.copy_within.ensures.by_index.0 c.copy_within.ensures.by_index.2 in
+    let n = c.copy_from_slice.ensures in
+    roll_parts _ _ _ _ _ _ _ _ c.min-rest.ensures (omega arith) M n.len (λ k h. grind (arith, places, n.after))

@@ -1,6 +1,6 @@
 -- `retire::rolling::roll_rows` meets its contract. Assumes nothing.
 use mathlib.Core.Path.{◌≡◌}
-use Prim.Native.Nat.{◌-◌, ◌*◌, ◌≤◌}
+use Prim.Native.Nat.{◌*◌}
 use Rattle.slotset.specs.Slots.{slot}
 use Rattle.slots.specs.Availability.{rows}
 use Rattle.retire.specs.Rolled.{rolled}
@@ -8,7 +8,4 @@ use Rattle.retire.proofs.rolling.roll_rows.Given as goal
 
 abbrev pub invariant-loop-person : goal.invariant-loop-person
 invariant-loop-person l =
-    (l.person ≤ l.people) × (l.words ≡ rows (λ p. rolled l.gone l.kept (slot l.initial.words (16 * p)) (slot l.fresh (16 * p))) l.count l.person l.initial.words)
-
-abbrev pub decreases-loop-person : goal.decreases-loop-person
-decreases-loop-person l = l.people - l.person
+    l.words ≡ rows (λ p. rolled l.gone l.kept (slot l.initial.words (16 * p)) (slot l.fresh (16 * p))) l.count l.person l.initial.words

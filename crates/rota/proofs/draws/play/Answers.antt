@@ -4,6 +4,11 @@ use Rattle.owners.specs.Derived.{plan, derived}
 use Rattle.rota.proofs.Listed.{playing-starts, next-asks, next-within, playing-more, playing-ends}
 use Rattle.rota.proofs.draws.play.Goals as goal
 
+pub bounds-draws-i : goal.bounds-draws-i
+bounds-draws-i c =
+    let i = c.loop-i.invariant in
+    next-within _ _ _ _ _ _ _ _ _ _ _ i.0 _ _ _ _ i.1 c.loop-i-test.true
+
 pub loop-i-init : goal.loop-i-init
 loop-i-init c =
     let a = c.args in (
@@ -11,11 +16,6 @@ loop-i-init c =
       playing-starts (plan a.people a.slots a.starts.now a.ends.now) a.avail.now a.units a.begins.now a.frozen.now a.count
           a.owners.now (derived a.sets.now a.minutes.now a.totals.now) a.answers.now a.draws.now c.begin-b.result c.begin-b.ensures,
     )
-
-pub bounds-draws-i : goal.bounds-draws-i
-bounds-draws-i c =
-    let i = c.loop-i.invariant in
-    next-within _ _ _ _ _ _ _ _ _ _ _ i.0 _ _ _ _ i.1 c.loop-i-test.true
 
 pub offset_bounds-draws-i : goal.offset_bounds-draws-i
 offset_bounds-draws-i c =

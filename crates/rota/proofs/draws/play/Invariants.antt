@@ -1,5 +1,5 @@
 -- `rota::draws::play` meets its contract: begun once, and i draws played so far. Assumes nothing.
-use Rattle.std.proofs.Common.{◌-◌, leb, length}
+use Rattle.std.proofs.Common.{leb, length}
 use Rattle.owners.specs.Derived.{plan, derived}
 use Rattle.rota.specs.Begins.{Begins}
 use Rattle.rota.proofs.Listed.{Playing}
@@ -12,6 +12,3 @@ invariant-loop-i l =
     × Playing (plan l.people l.slots l.starts l.ends) l.avail l.units l.begins l.frozen l.count l.initial.owners
     (derived l.initial.sets l.initial.minutes l.initial.totals) l.initial.answers l.draws l.b w l.i l.owners
     (derived l.sets l.minutes l.totals) l.answers
-
-abbrev pub decreases-loop-i : goal.decreases-loop-i
-decreases-loop-i l = l.n - l.i

@@ -12,11 +12,6 @@ nonzero_rem-mask c =
     let a = c.args in
     omega (arith, one_shl a.k (omega (arith, c.requires, c.if-k-people.true)), pow_pos a.k)
 
-pub overflow_sub-bound : goal.overflow_sub-bound
-overflow_sub-bound c =
-    let a = c.args in
-    omega (arith, one_shl a.k (omega (arith, c.requires, c.if-k-people.true)), pow_pos a.k)
-
 pub returns-then-mask-bound : goal.returns-then-mask-bound
 returns-then-mask-bound c =
     let a = c.args in

@@ -1,6 +1,5 @@
 -- `rota::moves::grow` meets its contract. Assumes nothing.
 use mathlib.Core.Path.{sym, ◌∙◌}
-use native.Mathlib.Omega.{arith}
 use Rattle.rota.proofs.Moved.{grow-none, grow-frozen, grow-unfit, grow-acts}
 use Rattle.rota.proofs.moves.grow.Goals as goal
 
@@ -21,6 +20,3 @@ returns-then-fits_unit c =
 
 pub returns : goal.returns
 returns c = grow-unfit _ _ _ (sym c.fits_unit.ensures ∙ c.if-fits_unit.false)
-
-pub overflow_sub-before : goal.overflow_sub-before
-overflow_sub-before c = omega arith

@@ -1,5 +1,6 @@
 -- `rota::moves::is_frozen` meets its contract. Assumes nothing.
-use mathlib.Core.Path.{refl, sym, ap}
+use mathlib.Core.Path.{refl, sym, ap, ◌∙◌}
+use borrow.Author.Tests.{le-ltb}
 use Prim.Native.Nat.{ℕ}
 use lib.Dec.{eqb}
 use lib.ListN.{get_or-eq_default}
@@ -12,4 +13,5 @@ returns-then-unit-flags c = refl
 
 pub returns-else-unit-flags : goal.returns-else-unit-flags
 unfolding frozen_by
-returns-else-unit-flags c = sym (ap (λ (x : ℕ). eqb x 1) (get_or-eq_default c.args.flags.now 0 c.if-unit-flags.false))
+returns-else-unit-flags c =
+    le-ltb _ _ c.if-unit-flags.false ∙ sym (ap (λ (x : ℕ). eqb x 1) (get_or-eq_default c.args.flags.now 0 c.if-unit-flags.false))

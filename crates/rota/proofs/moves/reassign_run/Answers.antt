@@ -7,6 +7,18 @@ use Rattle.rota.proofs.Judged.{fewer-owned}
 use Rattle.rota.proofs.Moved.{run_room, run-frozen, run-unowned, run-stuck, run-nobody, run-beyond, run-given}
 use Rattle.rota.proofs.moves.reassign_run.Goals as goal
 
+pub overflow_add-b : goal.overflow_add-b
+overflow_add-b c =
+    let at_pre = c.requires in
+    let r = run_room _ _ _ _ _ at_pre.people_bound.1 c.run_start-a.ensures c.run_end-b.ensures in
+    omega (arith, r.1)
+
+pub overflow_add-b-then-is_movable : goal.overflow_add-b-then-is_movable
+overflow_add-b-then-is_movable c =
+    let at_pre = c.requires in
+    let r = run_room _ _ _ _ _ at_pre.people_bound.1 c.run_start-a.ensures c.run_end-b.ensures in
+    omega (arith, r.1)
+
 pub returns-then-is_frozen : goal.returns-then-is_frozen
 unfolding owner_of
 returns-then-is_frozen c =
@@ -28,23 +40,11 @@ run_end-b-requires c =
     let at_pre = c.requires in
     record { unit_lt_units = at_pre.people_bound.1; owner_room = at_pre.owner_room }
 
-pub overflow_add-b : goal.overflow_add-b
-overflow_add-b c =
-    let at_pre = c.requires in
-    let r = run_room _ _ _ _ _ at_pre.people_bound.1 c.run_start-a.ensures c.run_end-b.ensures in
-    omega (arith, r.1)
-
 pub is_movable-requires : goal.is_movable-requires
 is_movable-requires c =
     let at_pre = c.requires in
     let r = run_room _ _ _ _ _ at_pre.people_bound.1 c.run_start-a.ensures c.run_end-b.ensures in
     (omega (arith, r.0), omega (arith, r.1, at_pre.units_in_bounds.1))
-
-pub overflow_add-b-then-is_movable : goal.overflow_add-b-then-is_movable
-overflow_add-b-then-is_movable c =
-    let at_pre = c.requires in
-    let r = run_room _ _ _ _ _ at_pre.people_bound.1 c.run_start-a.ensures c.run_end-b.ensures in
-    omega (arith, r.1)
 
 pub cover_of-requires : goal.cover_of-requires
 cover_of-requires c =

@@ -1,6 +1,5 @@
 -- `rota::moves::shrink` meets its contract. Assumes nothing.
 use mathlib.Core.Path.{sym, ◌∙◌}
-use native.Mathlib.Omega.{arith}
 use Rattle.rota.specs.Board.{owner_of}
 use Rattle.rota.proofs.Moved.{shrink-none, shrink-one, shrink-unowned, shrink-unfit, shrink-acts, shrink-frozen}
 use Rattle.rota.proofs.moves.shrink.Goals as goal
@@ -38,6 +37,3 @@ returns c =
     let at-owner-of = c.owner_of-owner in
     let at-fits-unit = c.fits_unit in
     shrink-unfit _ _ _ _ _ at-owner-of.ensures (sym at-fits-unit.ensures ∙ c.if-fits_unit.false)
-
-pub overflow_sub-a : goal.overflow_sub-a
-overflow_sub-a c = omega arith

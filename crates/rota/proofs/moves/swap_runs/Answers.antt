@@ -9,6 +9,18 @@ use Rattle.rota.proofs.Moved.{run_room, runs-first-frozen, runs-second-frozen, r
 use Rattle.rota.proofs.Moved.{runs-owner, runs_same, runs-unfit, runs-act}
 use Rattle.rota.proofs.moves.swap_runs.Goals as goal
 
+pub overflow_add-b : goal.overflow_add-b
+overflow_add-b c =
+    let at_pre = c.requires in
+    let r = run_room _ _ _ _ _ at_pre.first_lt_units.0 c.run_start-a.ensures c.run_end-b.ensures in
+    omega (arith, r.1)
+
+pub overflow_add-d : goal.overflow_add-d
+overflow_add-d c =
+    let at_pre = c.requires in
+    let r = run_room _ _ _ _ _ at_pre.first_lt_units.1 c.run_start-c.ensures c.run_end-d.ensures in
+    omega (arith, r.1)
+
 pub returns-then-is_frozen : goal.returns-then-is_frozen
 returns-then-is_frozen c = runs-first-frozen _ _ _ _ (sym c.is_frozen.ensures ∙ c.if-is_frozen.true)
 
@@ -38,26 +50,22 @@ returns-then-left-right c =
 
 pub run_start-a-requires : goal.run_start-a-requires
 run_start-a-requires c =
-    let c8 = c in
-    let at_pre = c8.requires in
+    let at_pre = c.requires in
     fewer-owned _ _ _ _ at_pre.first_lt_units.0 at_pre.owner_room
 
 pub run_end-b-requires : goal.run_end-b-requires
 run_end-b-requires c =
-    let c8 = c in
-    let at_pre = c8.requires in
+    let at_pre = c.requires in
     record { unit_lt_units = at_pre.first_lt_units.0; owner_room = at_pre.owner_room }
 
 pub run_start-c-requires : goal.run_start-c-requires
 run_start-c-requires c =
-    let c8 = c in
-    let at_pre = c8.requires in
+    let at_pre = c.requires in
     fewer-owned _ _ _ _ at_pre.first_lt_units.1 at_pre.owner_room
 
 pub run_end-d-requires : goal.run_end-d-requires
 run_end-d-requires c =
-    let c8 = c in
-    let at_pre = c8.requires in
+    let at_pre = c.requires in
     record { unit_lt_units = at_pre.first_lt_units.1; owner_room = at_pre.owner_room }
 
 pub returns-then-a-c : goal.returns-then-a-c
@@ -72,18 +80,6 @@ returns-then-a-c c =
     runs_same _ _ _ _ _ _ at-owner-of.ensures at-owner-of2.ensures _ _ _ _ at-run-start.ensures at-run-end.ensures
     at-run-start2.ensures
     at-run-end2.ensures c.if-a-c.true
-
-pub overflow_add-b : goal.overflow_add-b
-overflow_add-b c =
-    let at_pre = c.requires in
-    let r = run_room _ _ _ _ _ at_pre.first_lt_units.0 c.run_start-a.ensures c.run_end-b.ensures in
-    omega (arith, r.1)
-
-pub overflow_add-d : goal.overflow_add-d
-overflow_add-d c =
-    let at_pre = c.requires in
-    let r = run_room _ _ _ _ _ at_pre.first_lt_units.1 c.run_start-c.ensures c.run_end-d.ensures in
-    omega (arith, r.1)
 
 pub runs_fit-requires : goal.runs_fit-requires
 runs_fit-requires c =

@@ -14,9 +14,7 @@ use Rattle.rota.proofs.play.begin.Goals as goal
 
 pub frozen_of-flags-requires : goal.frozen_of-flags-requires
 frozen_of-flags-requires c =
-    let c8 = c in
-    let c16 = c8 in
-    let a = c16.args in
+    let a = c.args in
     let A = play-asks (plan a.people a.slots a.starts.now a.ends.now) a.avail.now a.units a.begins.now
     a.frozen.now a.count a.enough a.owners.now (derived a.sets.now a.minutes.now a.totals.now) a.answers.now
     (sym (said _ c.play_refusal-refusal.ensures) ∙ c.if-refusal-eq0.true) in
@@ -26,10 +24,8 @@ frozen_of-flags-requires c =
 pub returns-then-refusal-eq0 : goal.returns-then-refusal-eq0
 unfolding unless
 returns-then-refusal-eq0 c =
-    let c8 = c in
-    let c16 = c8 in
     let marks : length c.frozen_of-flags.result ≡ 1024 = search rules in
-    let a = c16.args in
+    let a = c.args in
     let no = c.play_refusal-refusal.ensures in
     let e = c.if-refusal-eq0.true in
     let A = play-asks (plan a.people a.slots a.starts.now a.ends.now) a.avail.now a.units a.begins.now
@@ -41,14 +37,13 @@ returns-then-refusal-eq0 c =
       fits = λ _. asks-fits _ _ _ _ _ _ _ _ _ _ A _ c.unit_domains.ensures.masks_after;
       flags = λ _. c.frozen_of-flags.ensures;
       room = (c.unit_domains.auto.masks ∙ length-replicate {A = ℕ} 1024 0, marks);
-      words = λ j. omega (arith, c8.shared_slice_known-7-1.given j);
+      words = λ j. omega (arith, c.shared_slice_known-7-1.given j);
     }
 
 pub returns : goal.returns
 unfolding unless
 returns c =
-    let c8 = c in
-    let a = c8.args in
+    let a = c.args in
     let e = c.if-refusal-eq0.false in
     record {
       refusal = c.play_refusal-refusal.ensures;

@@ -1,7 +1,7 @@
 -- `rota::play::frozen_of` meets its contract. Assumes nothing.
 use mathlib.Core.Path.{◌≡◌}
 use mathlib.Core.Bool.{◌&&◌}
-use Prim.Native.Nat.{ℕ, ◌-◌, ◌≤◌}
+use Prim.Native.Nat.{ℕ}
 use lib.Dec.{ltb}
 use lib.ListN.{length}
 use Rattle.rota.specs.Ready.{frozen_by}
@@ -10,7 +10,4 @@ use Rattle.rota.proofs.play.frozen_of.Given as goal
 
 abbrev pub invariant-loop-u : goal.invariant-loop-u
 invariant-loop-u l =
-    (l.u ≤ l.units) × (length l.flags ≡ 1024) × ((v : ℕ) → frozen_by l.flags v ≡ ltb v l.u && unit_frozen l.frozen l.slots l.units l.begins v)
-
-abbrev pub decreases-loop-u : goal.decreases-loop-u
-decreases-loop-u l = l.units - l.u
+    (length l.flags ≡ 1024) × ((v : ℕ) → frozen_by l.flags v ≡ ltb v l.u && unit_frozen l.frozen l.slots l.units l.begins v)

@@ -14,10 +14,7 @@ use Rattle.rota.proofs.play.play.Goals as goal
 
 pub frozen_of-flags-requires : goal.frozen_of-flags-requires
 frozen_of-flags-requires c =
-    let c8 = c in
-    let c16 = c8 in
-    let c24 = c16 in
-    let a = c24.args in
+    let a = c.args in
     let no = enough-number (plan a.people a.slots a.starts.now a.ends.now) a.avail.now a.units a.begins.now a.frozen.now a.count (columns_enough a.count a.draws.now a.firsts.now a.seconds.now) a.owners.now (derived
     a.sets.now a.minutes.now a.totals.now) a.answers.now _ _ c.play_refusal-refusal.ensures
     c.columns_enough.ensures in
@@ -28,43 +25,40 @@ frozen_of-flags-requires c =
 
 pub run-requires : goal.run-requires
 run-requires c =
-    let c8 = c in
-    let c16 = c8 in
-    let c24 = c16 in
-    let c32 = c24 in
-    let a = c32.args in
+    let a = c.args in
     let no = enough-number (plan a.people a.slots a.starts.now a.ends.now) a.avail.now a.units a.begins.now a.frozen.now a.count (columns_enough a.count a.draws.now a.firsts.now a.seconds.now) a.owners.now (derived
-    a.sets.now a.minutes.now a.totals.now) a.answers.now _ _ c8.play_refusal-refusal.ensures
-    c8.columns_enough.ensures in
+    a.sets.now a.minutes.now a.totals.now) a.answers.now _ _ c.play_refusal-refusal.ensures
+    c.columns_enough.ensures in
     let A = play-asks (plan a.people a.slots a.starts.now a.ends.now) a.avail.now a.units a.begins.now a.frozen.now a.count (columns_enough a.count a.draws.now a.firsts.now a.seconds.now) a.owners.now (derived
-    a.sets.now a.minutes.now a.totals.now) a.answers.now (sym (said _ no) ∙ c8.if-refusal-eq0.true) in
+    a.sets.now a.minutes.now a.totals.now) a.answers.now (sym (said _ no) ∙ c.if-refusal-eq0.true) in
     let G = A.right in
     let few = asks-few _ _ _ _ _ _ _ _ _ _ A in
-    let F = asks-fits _ _ _ _ _ _ _ _ _ _ A _ c8.unit_domains.ensures.masks_after in
+    let F = asks-fits _ _ _ _ _ _ _ _ _ _ A _ c.unit_domains.ensures.masks_after in
     let M = c.frozen_of-flags in
-    let masks = c8.unit_domains.auto.masks ∙ length-replicate {A = ℕ} 1024 0 in
-    let marks : length M.result ≡ 1024 = search (rules, M.type_inv) in record { plan_sound = G.on.sound; in_step = asks-step _ _ _ _ _ _ _ _ _ _ A; board_sound = ready-sound _ _ _ _ _ _ _ _ _ _ A _ _ F M.ensures; even = ready-even _ _ _ _ _ _ _ _ _ _ A _ _ F M.ensures; draw_room = columns-room _ _ _ _ _ G.draws G.answers; units_in_bounds = (units-room _ _ _ G.units-ok, omega (arith, few, masks), omega (arith, few, marks)) }
+    let masks = c.unit_domains.auto.masks ∙ length-replicate {A = ℕ} 1024 0 in
+    let marks : length M.result ≡ 1024 = search (rules, M.type_inv) in
+    record {
+      plan_sound = G.on.sound;
+      in_step = asks-step _ _ _ _ _ _ _ _ _ _ A;
+      board_sound = ready-sound _ _ _ _ _ _ _ _ _ _ A _ _ F M.ensures;
+      even = ready-even _ _ _ _ _ _ _ _ _ _ A _ _ F M.ensures;
+      draw_room = columns-room _ _ _ _ _ G.draws G.answers;
+      units_in_bounds = (units-room _ _ _ G.units-ok, omega (arith, few, masks), omega (arith, few, marks));
+    }
 
 pub returns-then-refusal-eq0 : goal.returns-then-refusal-eq0
 returns-then-refusal-eq0 c =
-    let c8 = c in
-    let c16 = c8 in
-    let c24 = c16 in
-    let c32 = c24 in
-    let c40 = c32 in
-    let a = c40.args in
+    let a = c.args in
     let no = enough-number (plan a.people a.slots a.starts.now a.ends.now) a.avail.now a.units a.begins.now a.frozen.now a.count (columns_enough a.count a.draws.now a.firsts.now a.seconds.now) a.owners.now (derived
-    a.sets.now a.minutes.now a.totals.now) a.answers.now _ _ c24.play_refusal-refusal.ensures c24.columns_enough.ensures in
+    a.sets.now a.minutes.now a.totals.now) a.answers.now _ _ c.play_refusal-refusal.ensures c.columns_enough.ensures in
     let A = play-asks (plan a.people a.slots a.starts.now a.ends.now) a.avail.now a.units a.begins.now a.frozen.now a.count (columns_enough a.count a.draws.now a.firsts.now a.seconds.now) a.owners.now (derived
-    a.sets.now a.minutes.now a.totals.now) a.answers.now (sym (said _ no) ∙ c16.if-refusal-eq0.true) in
-    let F = asks-fits _ _ _ _ _ _ _ _ _ _ A _ c16.unit_domains.ensures.masks_after in
-    played-yes _ _ _ _ _ _ _ _ _ _ A _ _ F c16.frozen_of-flags.ensures _ _ no c16.if-refusal-eq0.true _ _ _ c8.run.ensures
+    a.sets.now a.minutes.now a.totals.now) a.answers.now (sym (said _ no) ∙ c.if-refusal-eq0.true) in
+    let F = asks-fits _ _ _ _ _ _ _ _ _ _ A _ c.unit_domains.ensures.masks_after in
+    played-yes _ _ _ _ _ _ _ _ _ _ A _ _ F c.frozen_of-flags.ensures _ _ no c.if-refusal-eq0.true _ _ _ c.run.ensures
 
 pub returns : goal.returns
 returns c =
-    let c8 = c in
-    let c16 = c8 in
-    let a = c16.args in
+    let a = c.args in
     let no = enough-number (plan a.people a.slots a.starts.now a.ends.now) a.avail.now a.units a.begins.now a.frozen.now a.count (columns_enough a.count a.draws.now a.firsts.now a.seconds.now) a.owners.now (derived
     a.sets.now a.minutes.now a.totals.now) a.answers.now _ _ c.play_refusal-refusal.ensures
     c.columns_enough.ensures in

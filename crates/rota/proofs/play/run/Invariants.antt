@@ -1,5 +1,4 @@
 -- `rota::play::run` meets its contract. Assumes nothing.
-use Prim.Native.Nat.{◌-◌, ◌≤◌}
 use Rattle.rota.specs.Ready.{ready}
 use Rattle.owners.specs.Derived.{plan, derived}
 use Rattle.rota.specs.Plays.{draws_of}
@@ -8,9 +7,6 @@ use Rattle.rota.proofs.play.run.Given as goal
 
 abbrev pub invariant-loop-i : goal.invariant-loop-i
 invariant-loop-i l =
-    (l.i ≤ l.count) × Ran (plan l.people l.slots l.starts l.ends) (ready l.people l.slots l.units l.begins l.fits l.flags) l.initial.owners (derived l.initial.sets
-    l.initial.minutes l.initial.totals) l.initial.answers (draws_of l.draws l.firsts l.seconds l.i) l.owners (derived l.sets l.minutes l.totals) l.answers
-
-abbrev pub decreases-loop-i : goal.decreases-loop-i
-decreases-loop-i l =
-    l.count - l.i
+    Ran (plan l.people l.slots l.starts l.ends) (ready l.people l.slots l.units l.begins l.fits l.flags) l.initial.owners
+    (derived l.initial.sets l.initial.minutes l.initial.totals) l.initial.answers (draws_of l.draws l.firsts l.seconds l.i) l.owners
+    (derived l.sets l.minutes l.totals) l.answers

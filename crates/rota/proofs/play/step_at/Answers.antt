@@ -4,8 +4,7 @@ use Rattle.rota.proofs.play.step_at.Goals as goal
 
 pub step-requires : goal.step-requires
 step-requires c =
-    let c8 = c in
-    let p = c8.requires in
+    let p = c.requires in
     record { plan_sound = p.sound; in_step = p.in_step; board_sound = p.board; even = p.even; units_in_bounds = p.room }
 
 pub returns : goal.returns

@@ -10,75 +10,65 @@ use Rattle.rota.proofs.replay.replay_block.Goals as goal
 
 pub run_on-place-requires : goal.run_on-place-requires
 run_on-place-requires c =
-    let c8 = c in
-    let c16 = c8 in
-    let c24 = c16 in
-    let c32 = c24 in
-    let a = c32.args in
-    let b = c8.begin-b in
-    let many = c8.columns_enough.ensures in
-    let w = begun-columns (plan a.people a.slots a.starts.now a.ends.now) a.avail.now a.units a.begins.now
-    a.frozen.now a.count _ a.owners.now (derived a.sets.now a.minutes.now a.totals.now) _ a.recorded.now
-    (length-replicate {A = ℕ} 1024 0) a.draws.now a.firsts.now a.seconds.now many b.result _ b.ensures
-    c8.both.ensures in
-    let z = c8.if-refusal-eq0.true in
-    let A = begun-asks _ _ _ _ _ _ _ _ _ _ _ w z in record { plan_sound = A.right.on.sound; in_step = asks-step _ _ _ _ _ _ _ _ _ _ A; board_sound = begun-board _ _ _ _ _ _ _ _ _ _ _ w z; even = begun-even _ _ _ _ _ _ _ _ _ _ _ w z; draw_room = columns-room _ _ _ _ _ A.right.draws A.right.answers; units_in_bounds = begun-room _ _ _ _ _ _ _ _ _ _ _ w z }
-
-pub returns-then-place-count : goal.returns-then-place-count
-returns-then-place-count c =
-    let c8 = c in
-    let c16 = c8 in
-    let c24 = c16 in
-    let c32 = c24 in
-    let c40 = c32 in
-    let a = c40.args in
-    let b = c16.begin-b in
-    let many = c24.columns_enough.ensures in
-    let w = begun-columns (plan a.people a.slots a.starts.now a.ends.now) a.avail.now a.units a.begins.now
-    a.frozen.now a.count _ a.owners.now (derived a.sets.now a.minutes.now a.totals.now) _ a.recorded.now
-    (length-replicate {A = ℕ} 1024 0) a.draws.now a.firsts.now a.seconds.now many b.result _ b.ensures
-    c16.both.ensures in
-    let fine = c24.answers_ok.ensures in
-    let k = sym fine ∙ c24.if-answers_ok.true in
-    let z = c16.if-refusal-eq0.true in
-    block-differs _ _ _ _ _ _ _ _ _ _ _ k w _ z _ _ _ c8.run_on-place.ensures c.if-place-count.true
-
-pub returns-then-refusal-eq0 : goal.returns-then-refusal-eq0
-returns-then-refusal-eq0 c =
-    let c8 = c in
-    let c16 = c8 in
-    let c24 = c16 in
-    let c32 = c24 in
-    let c40 = c32 in
-    let a = c40.args in
-    let b = c16.begin-b in
-    let many = c24.columns_enough.ensures in
-    let w = begun-columns (plan a.people a.slots a.starts.now a.ends.now) a.avail.now a.units a.begins.now
-    a.frozen.now a.count _ a.owners.now (derived a.sets.now a.minutes.now a.totals.now) _ a.recorded.now
-    (length-replicate {A = ℕ} 1024 0) a.draws.now a.firsts.now a.seconds.now many b.result _ b.ensures
-    c16.both.ensures in
-    let fine = c24.answers_ok.ensures in
-    let k = sym fine ∙ c24.if-answers_ok.true in
-    let z = c16.if-refusal-eq0.true in
-    block-agrees _ _ _ _ _ _ _ _ _ _ _ k w _ z _ _ _ c8.run_on-place.ensures c.if-place-count.false
-
-pub returns-then-answers_ok : goal.returns-then-answers_ok
-returns-then-answers_ok c =
-    let c8 = c in
-    let c16 = c8 in
-    let c24 = c16 in
-    let a = c24.args in
+    let a = c.args in
     let b = c.begin-b in
     let many = c.columns_enough.ensures in
     let w = begun-columns (plan a.people a.slots a.starts.now a.ends.now) a.avail.now a.units a.begins.now
     a.frozen.now a.count _ a.owners.now (derived a.sets.now a.minutes.now a.totals.now) _ a.recorded.now
     (length-replicate {A = ℕ} 1024 0) a.draws.now a.firsts.now a.seconds.now many b.result _ b.ensures
     c.both.ensures in
-    let fine = c8.answers_ok.ensures in
-    let k = sym fine ∙ c8.if-answers_ok.true in
+    let z = c.if-refusal-eq0.true in
+    let A = begun-asks _ _ _ _ _ _ _ _ _ _ _ w z in
+    record {
+      plan_sound = A.right.on.sound;
+      in_step = asks-step _ _ _ _ _ _ _ _ _ _ A;
+      board_sound = begun-board _ _ _ _ _ _ _ _ _ _ _ w z;
+      even = begun-even _ _ _ _ _ _ _ _ _ _ _ w z;
+      draw_room = columns-room _ _ _ _ _ A.right.draws A.right.answers;
+      units_in_bounds = begun-room _ _ _ _ _ _ _ _ _ _ _ w z;
+    }
+
+pub returns-then-place-count : goal.returns-then-place-count
+returns-then-place-count c =
+    let a = c.args in
+    let b = c.begin-b in
+    let many = c.columns_enough.ensures in
+    let w = begun-columns (plan a.people a.slots a.starts.now a.ends.now) a.avail.now a.units a.begins.now
+    a.frozen.now a.count _ a.owners.now (derived a.sets.now a.minutes.now a.totals.now) _ a.recorded.now
+    (length-replicate {A = ℕ} 1024 0) a.draws.now a.firsts.now a.seconds.now many b.result _ b.ensures
+    c.both.ensures in
+    let fine = c.answers_ok.ensures in
+    let k = sym fine ∙ c.if-answers_ok.true in
+    let z = c.if-refusal-eq0.true in
+    block-differs _ _ _ _ _ _ _ _ _ _ _ k w _ z _ _ _ c.run_on-place.ensures c.if-place-count.true
+
+pub returns-then-refusal-eq0 : goal.returns-then-refusal-eq0
+returns-then-refusal-eq0 c =
+    let a = c.args in
+    let b = c.begin-b in
+    let many = c.columns_enough.ensures in
+    let w = begun-columns (plan a.people a.slots a.starts.now a.ends.now) a.avail.now a.units a.begins.now
+    a.frozen.now a.count _ a.owners.now (derived a.sets.now a.minutes.now a.totals.now) _ a.recorded.now
+    (length-replicate {A = ℕ} 1024 0) a.draws.now a.firsts.now a.seconds.now many b.result _ b.ensures
+    c.both.ensures in
+    let fine = c.answers_ok.ensures in
+    let k = sym fine ∙ c.if-answers_ok.true in
+    let z = c.if-refusal-eq0.true in
+    block-agrees _ _ _ _ _ _ _ _ _ _ _ k w _ z _ _ _ c.run_on-place.ensures c.if-place-count.false
+
+pub returns-then-answers_ok : goal.returns-then-answers_ok
+returns-then-answers_ok c =
+    let a = c.args in
+    let b = c.begin-b in
+    let many = c.columns_enough.ensures in
+    let w = begun-columns (plan a.people a.slots a.starts.now a.ends.now) a.avail.now a.units a.begins.now
+    a.frozen.now a.count _ a.owners.now (derived a.sets.now a.minutes.now a.totals.now) _ a.recorded.now
+    (length-replicate {A = ℕ} 1024 0) a.draws.now a.firsts.now a.seconds.now many b.result _ b.ensures
+    c.both.ensures in
+    let fine = c.answers_ok.ensures in
+    let k = sym fine ∙ c.if-answers_ok.true in
     block_refused _ _ _ _ _ _ _ _ _ _ _ k w _ c.if-refusal-eq0.false
 
 pub returns : goal.returns
 returns c =
-    let c8 = c in
     outcome-thirteen _ _ _ _ _ _ _ _ _ _ _ (sym c.answers_ok.ensures ∙ c.if-answers_ok.false)

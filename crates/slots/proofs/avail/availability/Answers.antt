@@ -11,21 +11,18 @@ merged_keys-list-requires c = (availability-says _ _ _ _ _ _ (sym (said _ c.avai
 
 pub fill_rows-requires : goal.fill_rows-requires
 fill_rows-requires c =
-    let availability-refusal = c.availability_refusal-number in
-    let if1 = c.if-number-eq0 in
-    let merged-keys = c.merged_keys-list in
-    let S = availability-says _ _ _ _ _ _ (sym (said _ availability-refusal.ensures) ∙ if1.true) in
-    let M = merged-keys.ensures in record { n_bound = (omega (arith, M.few, S.ranges-sound.few), M.fits, held-spaced _ S.ranges-sound merged-keys.result.keys _ M); slots_bound = (S.few, S.slots-sound); people_value = (S.people-ok, S.room) }
+    let S = availability-says _ _ _ _ _ _ (sym (said _ c.availability_refusal-number.ensures) ∙ c.if-number-eq0.true) in
+    let M = c.merged_keys-list.ensures in
+    record {
+      n_bound = (omega (arith, M.few, S.ranges-sound.few), M.fits, held-spaced _ S.ranges-sound c.merged_keys-list.result.keys _ M);
+      slots_bound = (S.few, S.slots-sound);
+      people_value = (S.people-ok, S.room);
+    }
 
 pub returns-then-number-eq0 : goal.returns-then-number-eq0
 returns-then-number-eq0 c =
-    let availability-refusal = c.availability_refusal-number in
-    let if1 = c.if-number-eq0 in
-    let merged-keys = c.merged_keys-list in
-    let fill-rows = c.fill_rows in
-    availability-done _ _ _ _ _ _ _ (said _ availability-refusal.ensures) if1.true merged-keys.result.keys _
-    merged-keys.ensures _
-    fill-rows.ensures
+    availability-done _ _ _ _ _ _ _ (said _ c.availability_refusal-number.ensures) c.if-number-eq0.true
+    c.merged_keys-list.result.keys _ c.merged_keys-list.ensures _ c.fill_rows.ensures
 
 pub returns : goal.returns
 returns c = availability-refused _ _ _ _ _ _ _ (said _ c.availability_refusal-number.ensures) c.if-number-eq0.false

@@ -7,9 +7,8 @@ use Rattle.slots.proofs.avail.availability_refusal.Goals as goal
 pub returns : goal.returns
 unfolding availability_row
 returns c =
-    let b = c in
-    checked _ refl b.accepted.ensures
-    (link b.check_people-f.ensures (link b.check_slots-f.ensures
-    (link b.check_range_count-f.ensures (link b.check_room-f.ensures
+    checked _ refl c.accepted.ensures
+    (link c.check_people-f.ensures (link c.check_slots-f.ensures
+    (link c.check_range_count-f.ensures (link c.check_room-f.ensures
     (link c.check_range_room-f.ensures (link c.check_words-f.ensures
     (link c.check_ranges-f.ensures (link c.check_order.ensures ends))))))))

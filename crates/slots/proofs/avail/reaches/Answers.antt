@@ -1,17 +1,6 @@
 -- `slots::avail::reaches` meets its contract. Assumes nothing.
-use native.Mathlib.Omega.{arith}
 use Rattle.slots.proofs.AvailLaws.{reaches_some, reaches-none}
 use Rattle.slots.proofs.avail.reaches.Goals as goal
-
-pub offset_bounds-keys-r : goal.offset_bounds-keys-r
-offset_bounds-keys-r c =
-    let pre = c.requires in
-    omega (arith, c.if-r-gt0.true, pre.0)
-
-pub bounds-keys-r : goal.bounds-keys-r
-bounds-keys-r c =
-    let pre = c.requires in
-    omega (arith, c.if-r-gt0.true, pre.1)
 
 pub returns-then-r-gt0 : goal.returns-then-r-gt0
 returns-then-r-gt0 c = reaches_some _ _ _ _ c.if-r-gt0.true c.closes_at.ensures

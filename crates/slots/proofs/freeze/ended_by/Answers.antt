@@ -1,57 +1,23 @@
 -- `slots::freeze::ended_by` meets its contract. Assumes nothing.
+use borrow.Author.Rules.{rules}
 use native.Mathlib.Omega.{arith}
-use Rattle.slots.proofs.FreezeLaws.{between-all, between-up, between-down, between_done}
+use Rattle.std.proofs.Common.{zero-add}
+use lib.Dec.{leb}
+use lib.ListN.{get_or, take}
+use Rattle.std.proofs.lemmas.List.{get_or-take}
+use Rattle.std.proofs.lemmas.List.Sorted.{IsPartitionPoint-from_clause}
+use lib.Seq.{length-take-le}
+use Rattle.slots.proofs.FreezeLaws.{opening-found}
 use Rattle.slots.proofs.freeze.ended_by.Goals as goal
 
-pub loop-low-init : goal.loop-low-init
-loop-low-init c = between-all _ _ _
-
-pub overflow_add-middle : goal.overflow_add-middle
-overflow_add-middle c =
-    let pre = c.requires in
-    let B = c.loop-low.invariant in omega (arith, B.order, B.few, pre.0)
-
-pub offset_bounds-ends-middle : goal.offset_bounds-ends-middle
-offset_bounds-ends-middle c =
-    let pre = c.requires in
-    let B = c.loop-low.invariant in omega (arith, B.order, B.few, pre.0, c.loop-low-test.true)
-
-pub bounds-ends-middle : goal.bounds-ends-middle
-bounds-ends-middle c =
-    let loop = c.loop-low in
-    let pre = c.requires in
-    let B = loop.invariant in omega (arith, B.order, B.few, pre.1, c.loop-low-test.true)
-
-pub overflow_add-low : goal.overflow_add-low
-overflow_add-low c =
-    let loop = c.loop-low in
-    let pre = c.requires in
-    let loop-test = c.loop-low-test in
-    let B = loop.invariant in omega (arith, B.order, B.few, pre.0, loop-test.true)
-
-pub loop-low-smaller-then-ends-middle : goal.loop-low-smaller-then-ends-middle
-loop-low-smaller-then-ends-middle c =
-    let loop-test = c.loop-low-test in
-    omega (arith, loop-test.true)
-
-pub loop-low-preserved-then-ends-middle : goal.loop-low-preserved-then-ends-middle
-loop-low-preserved-then-ends-middle c =
-    let pre = c.requires in
-    let loop = c.loop-low in
-    let loop-test = c.loop-low-test in
-    between-up _ _ _ pre.2 _ _ _ loop.invariant (omega (arith, loop-test.true)) (omega (arith, loop-test.true)) c.if-ends-middle.true
-
-pub loop-low-smaller : goal.loop-low-smaller
-loop-low-smaller c =
-    let loop-test = c.loop-low-test in
-    omega (arith, loop-test.true)
-
-pub loop-low-preserved : goal.loop-low-preserved
-loop-low-preserved c =
-    let pre = c.requires in
-    let loop = c.loop-low in
-    let loop-test = c.loop-low-test in
-    between-down _ _ _ pre.2 _ _ _ loop.invariant (omega (arith, loop-test.true)) (omega (arith, loop-test.true)) c.if-ends-middle.false
-
 pub returns : goal.returns
-returns c = between_done _ _ _ _ _ c.loop-low.invariant c.loop-low-test.false
+returns c =
+    let n = length-take-le c.args.slots c.args.ends.now c.requires.1 in
+    let front = take c.args.slots c.args.ends.now in
+    let found = opening-found c.args.slots 0 (λ k. get_or c.args.ends.now k 0) c.args.instant c.requires.2 (omega arith)
+    (λ k h. absurd (omega arith)) (λ x. x) front (omega arith)
+    (λ k h. rw zero-add (get_or-take c.args.slots c.args.ends.now k 0 (omega arith)))
+    c.partition_point.result c.partition_point.ensures.bound
+    (λ parted.
+    IsPartitionPoint-from_clause (λ x. leb x c.args.instant) _ _ c.partition_point.ensures.partitioned parted (λ a r q k. search rules)) in
+    rw zero-add at found

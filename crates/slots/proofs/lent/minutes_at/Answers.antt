@@ -6,4 +6,4 @@ use Rattle.slots.proofs.lent.minutes_at.Goals as goal
 
 pub returns : goal.returns
 unfolding minutes_at
-returns c = c.minutes_between.ensures ∙ ap₂ ◌-◌ c.entry_of-2.ensures c.entry_of.ensures
+returns c = c.saturating_sub.ensures ∙ ap₂ ◌-◌ c.entry_of.ensures c.entry_of-2.ensures

@@ -9,20 +9,14 @@ merged_keys-list-requires c = (merged-says _ _ _ (sym (said _ c.merged_refusal-n
 
 pub take_apart-requires : goal.take_apart-requires
 take_apart-requires c =
-    let merged-refusal = c.merged_refusal-number in
-    let if1 = c.if-number-eq0 in
-    let merged-keys = c.merged_keys-list in
-    let whole = merged-work _ _ _ (sym (said _ merged-refusal.ensures) ∙ if1.true) merged-keys.result.keys _ merged-keys.ensures in
+    let none = sym (said _ c.merged_refusal-number.ensures) ∙ c.if-number-eq0.true in
+    let whole = merged-work _ _ _ none c.merged_keys-list.result.keys _ c.merged_keys-list.ensures in
     record { n_bound = whole.0; n_in_bounds = whole.1 }
 
 pub returns-then-number-eq0 : goal.returns-then-number-eq0
 returns-then-number-eq0 c =
-    let merged-refusal = c.merged_refusal-number in
-    let if1 = c.if-number-eq0 in
-    let merged-keys = c.merged_keys-list in
-    let take-apart = c.take_apart in
-    merged-done _ _ _ _ (said _ merged-refusal.ensures) if1.true merged-keys.result.keys _ merged-keys.ensures _ _ _
-    take-apart.ensures
+    merged-done _ _ _ _ (said _ c.merged_refusal-number.ensures) c.if-number-eq0.true c.merged_keys-list.result.keys _
+    c.merged_keys-list.ensures _ _ _ c.take_apart.ensures
 
 pub returns : goal.returns
 returns c = merged-refused _ _ _ _ (said _ c.merged_refusal-number.ensures) c.if-number-eq0.false

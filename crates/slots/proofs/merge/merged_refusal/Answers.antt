@@ -7,8 +7,7 @@ use Rattle.slots.proofs.merge.merged_refusal.Goals as goal
 pub returns : goal.returns
 unfolding merged_row
 returns c =
-    let b = c in
-    checked _ refl b.accepted.ensures
-    (link b.check_people-f.ensures (link c.check_range_count-f.ensures
+    checked _ refl c.accepted.ensures
+    (link c.check_people-f.ensures (link c.check_range_count-f.ensures
     (link c.check_range_room-f.ensures (link c.check_range_room-f-2.ensures
     (link c.check_ranges.ensures ends)))))

@@ -7,9 +7,8 @@ use Rattle.slots.proofs.split.base_refusal.Goals as goal
 pub returns : goal.returns
 unfolding base_row
 returns c =
-    let b = c in
-    checked _ refl b.accepted.ensures
-    (link b.check_people-f.ensures (link b.check_slots-f.ensures
-    (link b.check_range_count-f.ensures (link b.check_room-f.ensures
+    checked _ refl c.accepted.ensures
+    (link c.check_people-f.ensures (link c.check_slots-f.ensures
+    (link c.check_range_count-f.ensures (link c.check_room-f.ensures
     (link c.check_range_room-f.ensures (link c.check_room-f-2.ensures
     (link c.check_order-f.ensures (link c.check_ranges.ensures ends))))))))

@@ -1,17 +1,6 @@
 -- `slots::split::opens_from` meets its contract. Assumes nothing.
-use native.Mathlib.Omega.{arith}
 use Rattle.slots.proofs.EdgeLaws.{opens-some, opens-past}
 use Rattle.slots.proofs.split.opens_from.Goals as goal
-
-pub offset_bounds-keys-r : goal.offset_bounds-keys-r
-offset_bounds-keys-r c =
-    let pre = c.requires in
-    omega (arith, c.if-r-n.true, pre.0)
-
-pub bounds-keys-r : goal.bounds-keys-r
-bounds-keys-r c =
-    let pre = c.requires in
-    omega (arith, c.if-r-n.true, pre.1)
 
 pub returns-then-r-n : goal.returns-then-r-n
 returns-then-r-n c = opens-some _ _ _ _ c.if-r-n.true c.opens_at.ensures

@@ -4,7 +4,7 @@ use mathlib.Core.Path.{◌≡◌, sym, ◌∙◌}
 use native.Mathlib.Omega.{arith}
 use lib.ListN.{length}
 use Rattle.paper.proofs.Rows.{said}
-use Rattle.slotset.proofs.Refusals.{len-says, number_is, number-refused}
+use Rattle.slotset.proofs.Refusals.{len-says, answer-is, answer-refused}
 use Rattle.slotset.proofs.SlotSet.count.Goals as goal
 
 pub count-requires : goal.count-requires
@@ -16,7 +16,7 @@ count-requires c =
 pub returns-then-number-eq0 : goal.returns-then-number-eq0
 returns-then-number-eq0 c =
     let k = c in
-    number_is _ _ (said _ k.len_refusal-number.ensures) k.if-number-eq0.true _ _ c.count.ensures
+    answer-is _ _ (said _ k.len_refusal-number.ensures) k.if-number-eq0.true _ _ c.count.ensures
 
 pub returns : goal.returns
-returns c = number-refused _ _ (said _ c.len_refusal-number.ensures) c.if-number-eq0.false _
+returns c = answer-refused _ _ (said _ c.len_refusal-number.ensures) c.if-number-eq0.false _

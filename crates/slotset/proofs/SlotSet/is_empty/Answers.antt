@@ -4,7 +4,7 @@ use mathlib.Core.Path.{◌≡◌, sym, ◌∙◌}
 use native.Mathlib.Omega.{arith}
 use lib.ListN.{length}
 use Rattle.paper.proofs.Rows.{said}
-use Rattle.slotset.proofs.Refusals.{len-says, yes-no-is, yes-no-refused}
+use Rattle.slotset.proofs.Refusals.{len-says, answer-is, answer-refused}
 use Rattle.slotset.proofs.SlotSet.is_empty.Goals as goal
 
 pub is_empty-requires : goal.is_empty-requires
@@ -16,7 +16,7 @@ is_empty-requires c =
 pub returns-then-number-eq0 : goal.returns-then-number-eq0
 returns-then-number-eq0 c =
     let k = c in
-    c.yes_or_no.ensures ∙ yes-no-is _ _ (said _ k.len_refusal-number.ensures) k.if-number-eq0.true _ _ c.is_empty.ensures
+    answer-is _ _ (said _ k.len_refusal-number.ensures) k.if-number-eq0.true _ _ c.is_empty.ensures
 
 pub returns : goal.returns
-returns c = yes-no-refused _ _ (said _ c.len_refusal-number.ensures) c.if-number-eq0.false _
+returns c = answer-refused _ _ (said _ c.len_refusal-number.ensures) c.if-number-eq0.false _

@@ -4,7 +4,7 @@ use mathlib.Core.Path.{◌≡◌, sym, ◌∙◌}
 use native.Mathlib.Omega.{arith}
 use lib.ListN.{length}
 use Rattle.paper.proofs.Rows.{said}
-use Rattle.slotset.proofs.Refusals.{len-says, next-run-is, next-run-refused}
+use Rattle.slotset.proofs.Refusals.{len-says, answer-is, answer-refused}
 use Rattle.slotset.proofs.SlotSet.next_run.Goals as goal
 
 pub next_run-requires : goal.next_run-requires
@@ -16,7 +16,7 @@ next_run-requires c =
 pub returns-then-number-eq0 : goal.returns-then-number-eq0
 returns-then-number-eq0 c =
     let k = c in
-    c.next_run.ensures ∙ next-run-is _ _ (said _ k.len_refusal-number.ensures) k.if-number-eq0.true _ _ _
+    answer-is _ _ (said _ k.len_refusal-number.ensures) k.if-number-eq0.true _ _ c.next_run.ensures
 
 pub returns : goal.returns
-returns c = next-run-refused _ _ (said _ c.len_refusal-number.ensures) c.if-number-eq0.false _ _ _
+returns c = answer-refused _ _ (said _ c.len_refusal-number.ensures) c.if-number-eq0.false _

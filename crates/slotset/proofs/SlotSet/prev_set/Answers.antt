@@ -4,7 +4,7 @@ use mathlib.Core.Path.{◌≡◌, sym, ◌∙◌}
 use native.Mathlib.Omega.{arith}
 use lib.ListN.{length}
 use Rattle.paper.proofs.Rows.{said}
-use Rattle.slotset.proofs.Refusals.{len-says, found-is, found-refused}
+use Rattle.slotset.proofs.Refusals.{len-says, answer-is, answer-refused}
 use Rattle.slotset.proofs.SlotSet.prev_set.Goals as goal
 
 pub prev_set-requires : goal.prev_set-requires
@@ -16,7 +16,7 @@ prev_set-requires c =
 pub returns-then-number-eq0 : goal.returns-then-number-eq0
 returns-then-number-eq0 c =
     let k = c in
-    found-is _ _ (said _ k.len_refusal-number.ensures) k.if-number-eq0.true _ _ c.prev_set.ensures
+    answer-is _ _ (said _ k.len_refusal-number.ensures) k.if-number-eq0.true _ _ c.prev_set.ensures
 
 pub returns : goal.returns
-returns c = found-refused _ _ (said _ c.len_refusal-number.ensures) c.if-number-eq0.false _
+returns c = answer-refused _ _ (said _ c.len_refusal-number.ensures) c.if-number-eq0.false _

@@ -4,7 +4,7 @@ use mathlib.Core.Path.{◌≡◌, sym, ◌∙◌}
 use native.Mathlib.Omega.{arith}
 use lib.ListN.{length}
 use Rattle.paper.proofs.Rows.{said}
-use Rattle.slotset.proofs.Refusals.{len-says, run_is, run-refused}
+use Rattle.slotset.proofs.Refusals.{len-says, answer-is, answer-refused}
 use Rattle.slotset.proofs.SlotSet.run_bounds.Goals as goal
 
 pub run_bounds-requires : goal.run_bounds-requires
@@ -16,7 +16,7 @@ run_bounds-requires c =
 pub returns-then-number-eq0 : goal.returns-then-number-eq0
 returns-then-number-eq0 c =
     let k = c in
-    c.run_bounds.ensures ∙ run_is _ _ (said _ k.len_refusal-number.ensures) k.if-number-eq0.true _ _ _
+    answer-is _ _ (said _ k.len_refusal-number.ensures) k.if-number-eq0.true _ _ c.run_bounds.ensures
 
 pub returns : goal.returns
-returns c = run-refused _ _ (said _ c.len_refusal-number.ensures) c.if-number-eq0.false _ _ _
+returns c = answer-refused _ _ (said _ c.len_refusal-number.ensures) c.if-number-eq0.false _

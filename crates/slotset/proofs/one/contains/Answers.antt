@@ -1,7 +1,7 @@
 -- `slotset::one::contains` meets its contract. Assumes nothing.
 use mathlib.Core.Path.{sym, ◌∙◌}
 use Rattle.paper.proofs.Rows.{said}
-use Rattle.slotset.proofs.Refusals.{set_says, yes-no-is, yes-no-refused}
+use Rattle.slotset.proofs.Refusals.{set_says, answer-is, answer-refused}
 use Rattle.slotset.proofs.one.contains.Goals as goal
 
 pub contains-requires : goal.contains-requires
@@ -12,7 +12,7 @@ contains-requires c =
 pub returns-then-number-eq0 : goal.returns-then-number-eq0
 returns-then-number-eq0 c =
     let k = c in
-    c.yes_or_no.ensures ∙ yes-no-is _ _ (said _ k.set_refusal-number.ensures) k.if-number-eq0.true _ _ c.contains.ensures
+    answer-is _ _ (said _ k.set_refusal-number.ensures) k.if-number-eq0.true _ _ c.contains.ensures
 
 pub returns : goal.returns
-returns c = yes-no-refused _ _ (said _ c.set_refusal-number.ensures) c.if-number-eq0.false _
+returns c = answer-refused _ _ (said _ c.set_refusal-number.ensures) c.if-number-eq0.false _

@@ -1,7 +1,7 @@
 -- `slotset::one::count` meets its contract. Assumes nothing.
 use mathlib.Core.Path.{sym, ◌∙◌}
 use Rattle.paper.proofs.Rows.{said}
-use Rattle.slotset.proofs.Refusals.{set_says, number_is, number-refused}
+use Rattle.slotset.proofs.Refusals.{set_says, answer-is, answer-refused}
 use Rattle.slotset.proofs.one.count.Goals as goal
 
 pub count-requires : goal.count-requires
@@ -10,7 +10,7 @@ count-requires c =
     r
 
 pub returns-then-number-eq0 : goal.returns-then-number-eq0
-returns-then-number-eq0 c = number_is _ _ (said _ c.set_refusal-number.ensures) c.if-number-eq0.true _ _ c.count.ensures
+returns-then-number-eq0 c = answer-is _ _ (said _ c.set_refusal-number.ensures) c.if-number-eq0.true _ _ c.count.ensures
 
 pub returns : goal.returns
-returns c = number-refused _ _ (said _ c.set_refusal-number.ensures) c.if-number-eq0.false _
+returns c = answer-refused _ _ (said _ c.set_refusal-number.ensures) c.if-number-eq0.false _

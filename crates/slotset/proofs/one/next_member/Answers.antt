@@ -1,7 +1,7 @@
 -- `slotset::one::next_member` meets its contract. Assumes nothing.
 use mathlib.Core.Path.{sym, ◌∙◌}
 use Rattle.paper.proofs.Rows.{said}
-use Rattle.slotset.proofs.Refusals.{set_says, next-member-is, next-member-refused}
+use Rattle.slotset.proofs.Refusals.{set_says, answer-is, answer-refused}
 use Rattle.slotset.proofs.one.next_member.Goals as goal
 
 pub next_member-requires : goal.next_member-requires
@@ -10,7 +10,7 @@ next_member-requires c =
     r
 
 pub returns-then-number-eq0 : goal.returns-then-number-eq0
-returns-then-number-eq0 c = c.next_member.ensures ∙ next-member-is _ _ (said _ c.set_refusal-number.ensures) c.if-number-eq0.true _ _ _
+returns-then-number-eq0 c = answer-is _ _ (said _ c.set_refusal-number.ensures) c.if-number-eq0.true _ _ c.next_member.ensures
 
 pub returns : goal.returns
-returns c = next-member-refused _ _ (said _ c.set_refusal-number.ensures) c.if-number-eq0.false _ _ _
+returns c = answer-refused _ _ (said _ c.set_refusal-number.ensures) c.if-number-eq0.false _

@@ -1,7 +1,7 @@
 -- `slotset::one::prev_unset_before` meets its contract. Assumes nothing.
 use mathlib.Core.Path.{sym, ◌∙◌}
 use Rattle.paper.proofs.Rows.{said}
-use Rattle.slotset.proofs.Refusals.{set_says, found-is, found-refused}
+use Rattle.slotset.proofs.Refusals.{set_says, answer-is, answer-refused}
 use Rattle.slotset.proofs.one.prev_unset_before.Goals as goal
 
 pub last_below-requires : goal.last_below-requires
@@ -10,7 +10,7 @@ last_below-requires c =
     r
 
 pub returns-then-number-eq0 : goal.returns-then-number-eq0
-returns-then-number-eq0 c = found-is _ _ (said _ c.set_refusal-number.ensures) c.if-number-eq0.true _ _ c.last_below.ensures
+returns-then-number-eq0 c = answer-is _ _ (said _ c.set_refusal-number.ensures) c.if-number-eq0.true _ _ c.last_below.ensures
 
 pub returns : goal.returns
-returns c = found-refused _ _ (said _ c.set_refusal-number.ensures) c.if-number-eq0.false _
+returns c = answer-refused _ _ (said _ c.set_refusal-number.ensures) c.if-number-eq0.false _

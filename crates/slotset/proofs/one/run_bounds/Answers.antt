@@ -4,7 +4,7 @@ use native.Mathlib.Omega.{arith}
 use Rattle.paper.proofs.Rows.{said}
 use Rattle.slotset.specs.Slots.{slot, value_of}
 use Rattle.slotset.proofs.Puts.{slot_lt}
-use Rattle.slotset.proofs.Refusals.{set_says, run_is, run-refused}
+use Rattle.slotset.proofs.Refusals.{set_says, answer-is, answer-refused}
 use Rattle.slotset.proofs.Runs.{has_value, answers-outside}
 use Rattle.slotset.proofs.Skips.{held-is}
 use Rattle.slotset.proofs.one.run_bounds.Goals as goal
@@ -38,15 +38,15 @@ returns-then-i-len c =
     let k = s in
     let n = k in
     let a = n.args in
-    c.held_by.ensures
+    answer-is _ _ (said _ n.set_refusal-number.ensures) n.if-number-eq0.true _ _
+    (c.held_by.ensures
     ∙ held-is (slot a.words.now 0) (slot_lt a.words.now 0) a.len a.i _ _ _ k.if-i-len.true k.contains-want.ensures
-    s.start_around-first.ensures e.end_around.ensures
-    ∙ run_is _ _ (said _ n.set_refusal-number.ensures) n.if-number-eq0.true _ _ _
+    s.start_around-first.ensures e.end_around.ensures)
 
 pub returns-then-number-eq0 : goal.returns-then-number-eq0
 returns-then-number-eq0 c =
     let n = c in
-    sym (answers-outside _ _ _ c.if-i-len.false) ∙ run_is _ _ (said _ n.set_refusal-number.ensures) n.if-number-eq0.true _ _ _
+    answer-is _ _ (said _ n.set_refusal-number.ensures) n.if-number-eq0.true _ _ (sym (answers-outside _ _ _ c.if-i-len.false))
 
 pub returns : goal.returns
-returns c = run-refused _ _ (said _ c.set_refusal-number.ensures) c.if-number-eq0.false _ _ _
+returns c = answer-refused _ _ (said _ c.set_refusal-number.ensures) c.if-number-eq0.false _

@@ -2,7 +2,7 @@
 use mathlib.Core.Path.{sym, ◌∙◌}
 use native.Mathlib.Omega.{arith}
 use Rattle.paper.proofs.Rows.{said}
-use Rattle.slotset.proofs.Refusals.{row-says, yes-no-is, yes-no-refused}
+use Rattle.slotset.proofs.Refusals.{row-says, answer-is, answer-refused}
 use Rattle.slotset.proofs.row.contains.Goals as goal
 
 pub overflow_mul-person : goal.overflow_mul-person
@@ -18,7 +18,7 @@ contains-requires c =
 pub returns-then-number-eq0 : goal.returns-then-number-eq0
 returns-then-number-eq0 c =
     let k = c in
-    c.yes_or_no.ensures ∙ yes-no-is _ _ (said _ k.row_refusal-number.ensures) k.if-number-eq0.true _ _ c.contains.ensures
+    answer-is _ _ (said _ k.row_refusal-number.ensures) k.if-number-eq0.true _ _ c.contains.ensures
 
 pub returns : goal.returns
-returns c = yes-no-refused _ _ (said _ c.row_refusal-number.ensures) c.if-number-eq0.false _
+returns c = answer-refused _ _ (said _ c.row_refusal-number.ensures) c.if-number-eq0.false _

@@ -2,7 +2,7 @@
 use mathlib.Core.Path.{sym, ◌∙◌}
 use native.Mathlib.Omega.{arith}
 use Rattle.paper.proofs.Rows.{said}
-use Rattle.slotset.proofs.Refusals.{row-says, next-run-is, next-run-refused}
+use Rattle.slotset.proofs.Refusals.{row-says, answer-is, answer-refused}
 use Rattle.slotset.proofs.row.next_run.Goals as goal
 
 pub overflow_mul-person : goal.overflow_mul-person
@@ -16,7 +16,7 @@ next_run-requires c =
     (r.words, r.short)
 
 pub returns-then-number-eq0 : goal.returns-then-number-eq0
-returns-then-number-eq0 c = c.next_run.ensures ∙ next-run-is _ _ (said _ c.row_refusal-number.ensures) c.if-number-eq0.true _ _ _
+returns-then-number-eq0 c = answer-is _ _ (said _ c.row_refusal-number.ensures) c.if-number-eq0.true _ _ c.next_run.ensures
 
 pub returns : goal.returns
-returns c = next-run-refused _ _ (said _ c.row_refusal-number.ensures) c.if-number-eq0.false _ _ _
+returns c = answer-refused _ _ (said _ c.row_refusal-number.ensures) c.if-number-eq0.false _

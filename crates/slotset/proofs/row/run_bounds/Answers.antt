@@ -2,7 +2,7 @@
 use mathlib.Core.Path.{sym, ◌∙◌}
 use native.Mathlib.Omega.{arith}
 use Rattle.paper.proofs.Rows.{said}
-use Rattle.slotset.proofs.Refusals.{row-says, run_is, run-refused}
+use Rattle.slotset.proofs.Refusals.{row-says, answer-is, answer-refused}
 use Rattle.slotset.proofs.row.run_bounds.Goals as goal
 
 pub overflow_mul-person : goal.overflow_mul-person
@@ -16,7 +16,7 @@ run_bounds-requires c =
     (r.words, r.short)
 
 pub returns-then-number-eq0 : goal.returns-then-number-eq0
-returns-then-number-eq0 c = c.run_bounds.ensures ∙ run_is _ _ (said _ c.row_refusal-number.ensures) c.if-number-eq0.true _ _ _
+returns-then-number-eq0 c = answer-is _ _ (said _ c.row_refusal-number.ensures) c.if-number-eq0.true _ _ c.run_bounds.ensures
 
 pub returns : goal.returns
-returns c = run-refused _ _ (said _ c.row_refusal-number.ensures) c.if-number-eq0.false _ _ _
+returns c = answer-refused _ _ (said _ c.row_refusal-number.ensures) c.if-number-eq0.false _

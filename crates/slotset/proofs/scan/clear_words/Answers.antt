@@ -51,21 +51,3 @@ returns c =
     let a = l.args in
     let q : l.loop-j.j * 64 ≡ a.whole * 64 = omega (arith, l.loop-j.invariant.0, c.loop-j-test.false) in
     l.loop-j.invariant.1 ∙ ap (λ (n : ℕ). put_slots (λ _. 0) a.base 0 n a.words.now) q
-
-pub overflow_add-base : goal.overflow_add-base
-overflow_add-base c = omega arith
-
-pub offset_bounds-words-base : goal.offset_bounds-words-base
-offset_bounds-words-base c = omega arith
-
-pub overflow_add-words : goal.overflow_add-words
-overflow_add-words c = omega arith
-
-pub offset_bounds-words-base-in-loop-j : goal.offset_bounds-words-base-in-loop-j
-offset_bounds-words-base-in-loop-j c = omega arith
-
-pub overflow_add-j : goal.overflow_add-j
-overflow_add-j c = omega arith
-
-pub loop-j-smaller : goal.loop-j-smaller
-loop-j-smaller c = omega arith

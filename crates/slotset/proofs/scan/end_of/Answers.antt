@@ -6,13 +6,10 @@ use Rattle.slotset.specs.Inside.{Above}
 use Rattle.slotset.proofs.scan.end_of.Goals as goal
 
 pub overflow_sub-result : goal.overflow_sub-result
-overflow_sub-result c = omega (arith, subst (Above 0) c.in-At.is c.requires.1)
+overflow_sub-result c = omega (arith, subst (Above 0) c.in-Some.is c.requires.1)
 
-pub returns-in-At : goal.returns-in-At
-returns-in-At c = let s = c.args in sym (ap (end_of s.len) c.in-At.is)
+pub returns-in-Some : goal.returns-in-Some
+returns-in-Some c = let s = c.args in sym (ap (end_of s.len) c.in-Some.is)
 
-pub returns-in-Nothing : goal.returns-in-Nothing
-returns-in-Nothing c = let s = c.args in sym (ap (end_of s.len) c.in-Nothing.is)
-
-pub returns-in-Refused : goal.returns-in-Refused
-returns-in-Refused c = let s = c.args in sym (ap (end_of s.len) c.in-Refused.is)
+pub returns-in-None : goal.returns-in-None
+returns-in-None c = let s = c.args in sym (ap (end_of s.len) c.in-None.is)

@@ -6,13 +6,10 @@ use Rattle.slotset.specs.Answers.{member_step}
 use Rattle.slotset.proofs.scan.member_step.Goals as goal
 
 pub overflow_add-result : goal.overflow_add-result
-overflow_add-result c = omega (arith, subst (Below 1024) c.in-At.is c.requires)
+overflow_add-result c = omega (arith, subst (Below 1024) c.in-Some.is c.requires)
 
-pub returns-in-At : goal.returns-in-At
-returns-in-At c = sym (ap member_step c.in-At.is)
+pub returns-in-Some : goal.returns-in-Some
+returns-in-Some c = sym (ap member_step c.in-Some.is)
 
-pub returns-in-Nothing : goal.returns-in-Nothing
-returns-in-Nothing c = sym (ap member_step c.in-Nothing.is)
-
-pub returns-in-Refused : goal.returns-in-Refused
-returns-in-Refused c = sym (ap member_step c.in-Refused.is)
+pub returns-in-None : goal.returns-in-None
+returns-in-None c = sym (ap member_step c.in-None.is)

@@ -1,9 +1,8 @@
 -- `slotset::scan::next_member` meets its contract. Assumes nothing.
 use mathlib.Core.Path.{ap, ◌∙◌}
-use Rattle.paper.specs.Rows.{unless}
 use Rattle.slotset.specs.Slots.{slot}
 use Rattle.slotset.specs.Search.{next_set}
-use Rattle.slotset.specs.Answers.{member_step, next_member_as}
+use Rattle.slotset.specs.Answers.{member_step}
 use Rattle.slotset.proofs.Meaning.{next-is, first_below, below_more}
 use Rattle.slotset.proofs.scan.next_member.Goals as goal
 
@@ -16,5 +15,4 @@ member_step-requires c =
     (first_below 1 f s.len s.at (next_set f s.len s.at) (next-is 1 f s.len s.at)))
 
 pub returns : goal.returns
-unfolding next_member_as unless
 returns c = c.member_step.ensures ∙ ap member_step c.next_with.ensures

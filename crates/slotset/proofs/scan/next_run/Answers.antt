@@ -1,14 +1,13 @@
 -- `slotset::scan::next_run` meets its contract. Assumes nothing.
+use Rattle.std.specs.Prelude.{Option, Some}
 use mathlib.Core.Path.{sym, ap, ◌∙◌, subst}
 use Prim.Native.Nat.{ℕ, ◌+◌}
 use native.Mathlib.Omega.{arith}
-use Rattle.paper.specs.Rows.{unless}
 use Rattle.slotset.specs.declared.NextRun.{NextRun}
-use Rattle.slotset.specs.declared.NextRun.TheVariants.{Span}
 use Rattle.slotset.specs.Slots.{slot}
 use Rattle.slotset.specs.Search.{next_with, First}
 use Rattle.slotset.specs.Runs.{end_of}
-use Rattle.slotset.specs.Answers.{next_run_as, run_step}
+use Rattle.slotset.specs.Answers.{run_step}
 use Rattle.slotset.proofs.Meaning.{next-is}
 use Rattle.slotset.proofs.Runs.{first_above, end_lt, next-after}
 use Rattle.slotset.proofs.scan.next_run.Goals as goal
@@ -18,7 +17,7 @@ overflow_add-first c =
     let n = c in
     let s = n.args in
     let f = slot s.words.now s.base in
-    let w = subst (First 1 f s.len s.at) (sym n.next_with-found.ensures ∙ c.in-At.is) (next-is 1 f s.len s.at) in
+    let w = subst (First 1 f s.len s.at) (sym n.next_with-found.ensures ∙ c.in-Some.is) (next-is 1 f s.len s.at) in
     omega (arith, w.1, n.requires.1)
 
 pub end_of-last-requires : goal.end_of-last-requires
@@ -27,8 +26,8 @@ end_of-last-requires c =
     let n = k in
     let s = n.args in
     let f = slot s.words.now s.base in
-    let i = k.in-At.first in
-    let w = subst (First 1 f s.len s.at) (sym n.next_with-found.ensures ∙ k.in-At.is) (next-is 1 f s.len s.at) in (
+    let i = k.in-Some.first in
+    let w = subst (First 1 f s.len s.at) (sym n.next_with-found.ensures ∙ k.in-Some.is) (next-is 1 f s.len s.at) in (
       omega (arith, w.1),
       rw c.next_with.ensures
           (first_above 0 f s.len (i + 1) (next_with 0 f s.len (i + 1)) (next-is 0 f s.len (i + 1)) (omega arith)),
@@ -40,8 +39,8 @@ overflow_add-result c =
     let n = k in
     let s = n.args in
     let f = slot s.words.now s.base in
-    let i = k.in-At.first in
-    let w = subst (First 1 f s.len s.at) (sym n.next_with-found.ensures ∙ k.in-At.is) (next-is 1 f s.len s.at) in
+    let i = k.in-Some.first in
+    let w = subst (First 1 f s.len s.at) (sym n.next_with-found.ensures ∙ k.in-Some.is) (next-is 1 f s.len s.at) in
     let e = c.end_of-last.ensures ∙ ap (end_of s.len) c.next_with.ensures in
     omega (
       arith,
@@ -50,27 +49,18 @@ overflow_add-result c =
       n.requires.1,
     )
 
-pub returns-in-At : goal.returns-in-At
-unfolding next_run_as unless
-returns-in-At c =
+pub returns-in-Some : goal.returns-in-Some
+returns-in-Some c =
     let k = c in
     let n = k in
     let s = n.args in
     let f = slot s.words.now s.base in
-    ap {B = NextRun} (λ (x : ℕ). Span k.in-At.first x (record { at = x + 1 }))
+    ap {B = Option NextRun} (λ (x : ℕ). Some (record { first = k.in-Some.first; last = x; next = record { at = x + 1 } }))
     (c.end_of-last.ensures ∙ ap (end_of s.len) (c.next_with.ensures ∙ next-after 0 _ _ _))
-    ∙ sym (ap (run_step f s.len) (sym n.next_with-found.ensures ∙ k.in-At.is))
+    ∙ sym (ap (run_step f s.len) (sym n.next_with-found.ensures ∙ k.in-Some.is))
 
-pub returns-in-Nothing : goal.returns-in-Nothing
-unfolding next_run_as unless
-returns-in-Nothing c =
+pub returns-in-None : goal.returns-in-None
+returns-in-None c =
     let n = c in
     let s = n.args in
-    sym (ap (run_step (slot s.words.now s.base) s.len) (sym n.next_with-found.ensures ∙ c.in-Nothing.is))
-
-pub returns-in-Refused : goal.returns-in-Refused
-unfolding next_run_as unless
-returns-in-Refused c =
-    let n = c in
-    let s = n.args in
-    sym (ap (run_step (slot s.words.now s.base) s.len) (sym n.next_with-found.ensures ∙ c.in-Refused.is))
+    sym (ap (run_step (slot s.words.now s.base) s.len) (sym n.next_with-found.ensures ∙ c.in-None.is))

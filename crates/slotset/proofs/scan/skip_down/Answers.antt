@@ -1,43 +1,35 @@
--- `slotset::scan::skip_down` meets its contract. The invariant: every word so far is x. Assumes nothing.
-use borrow.Author.Rules.{rules}
-use mathlib.Core.Path.{◌≡◌, sym, ap, ◌∙◌}
-use Prim.Native.Nat.{ℕ, ◌+◌, ◌-◌, ◌<◌}
+-- `slotset::scan::skip_down` meets its contract. The invariant: every word from j on is x. Assumes nothing.
+use mathlib.Core.Path.{◌≡◌, ap, ◌∙◌}
+use Prim.Native.Nat.{ℕ, ◌+◌, ◌-◌}
 use native.Mathlib.Omega.{arith}
 use lib.ListN.{get_or}
 use Rattle.slotset.proofs.Skips.{one_less}
 use Rattle.slotset.proofs.scan.skip_down.Goals as goal
 
--- the word before word j, as it is read
-before-it : (b j : ℕ) → 0 < j → b + (j - 1) ≡ b + j - 1
-before-it b j h = omega arith
+pub loop-j-init : goal.loop-j-init
+loop-j-init c = λ k a b. let z : ⊥ = omega (arith, a, b) in absurd z
 
-pub loop-end-init : goal.loop-end-init
-loop-end-init c = (((λ h. h), search rules), (λ k a b. let z : ⊥ = omega (arith, a, b) in absurd z))
+pub loop-j-preserved : goal.loop-j-preserved
+loop-j-preserved c =
+    let a = c.args in
+    one_less a.words.now a.base a.x a.before c.loop-j.j (omega arith) c.loop-j.invariant c.if-words-base.false
 
-pub loop-end-preserved : goal.loop-end-preserved
-loop-end-preserved c =
-    let l = c in
-    let t = c.loop-end-test.true in
-    let a = l.args in (
-      ((λ h. omega (arith, t)), search rules),
-      one_less a.words.now a.base a.x a.before l.loop-end.end (omega (arith, t)) l.loop-end.invariant.1
-          (ap (λ (k : ℕ). get_or a.words.now k 0) (before-it a.base l.loop-end.end (omega (arith, t))) ∙ c.if-words-base.true),
-    )
-
-pub returns-else-words-base : goal.returns-else-words-base
-returns-else-words-base c =
-    let l = c in
-    let a = l.args in
-    let i = l.loop-end.invariant in
-    let q = before-it a.base l.loop-end.end (omega (arith, c.loop-end-test.true)) in
+pub returns-then-words-base : goal.returns-then-words-base
+returns-then-words-base c =
+    let a = c.args in
+    let q : c.loop-j.j - 1 ≡ c.loop-j.j - 1 + 1 - 1 = omega arith in
     record {
-      some = i.0.0;
-      to = i.0.1;
-      same = i.1;
-      other = λ h e. c.if-words-base.false (sym (ap (λ (k : ℕ). get_or a.words.now k 0) q) ∙ e);
+      some = λ h. omega arith;
+      to = omega arith;
+      same = λ k u v. c.loop-j.invariant k (omega (arith, u)) v;
+      other = λ h e. c.if-words-base.true (ap (λ (k : ℕ). get_or a.words.now (a.base + k) 0) q ∙ e);
     }
 
 pub returns : goal.returns
 returns c =
-    let i = c.loop-end.invariant in
-    record { some = i.0.0; to = i.0.1; same = i.1; other = λ h e. omega (arith, h, c.loop-end-test.false) }
+    record {
+      some = λ h. omega (arith, h);
+      to = omega arith;
+      same = λ k a b. c.loop-j.invariant k (omega (arith, a, b, c.loop-j-test.false)) b;
+      other = λ h e. let z : ⊥ = omega (arith, h) in z;
+    }

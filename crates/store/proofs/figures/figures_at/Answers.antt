@@ -4,5 +4,4 @@ use Rattle.store.proofs.figures.figures_at.Goals as goal
 
 pub returns : goal.returns
 returns c =
-    let b = c in
-    figures-read _ _ _ _ b.requires b.field-value.ensures.0 b.field-days.ensures.0
+    figures-read _ _ _ _ c.requires c.field-value.ensures.0 c.field-days.ensures.0

@@ -10,16 +10,13 @@ overflow_add-at c = omega (arith, head-room _ _ c.requires)
 
 pub returns-then-field-gt33 : goal.returns-then-field-gt33
 returns-then-field-gt33 c =
-    let b = c in
-    newer-at _ _ b.requires (omega (arith, kind-read _ _ b.requires _ c.field.ensures.0))
+    newer-at _ _ c.requires (omega (arith, kind-read _ _ c.requires _ c.field.ensures.0))
 
 pub figures_at-figures-requires : goal.figures_at-figures-requires
 figures_at-figures-requires c =
-    let b = c in
-    figures-room _ _ b.requires (omega (arith, kind-read _ _ b.requires _ c.field.ensures.0))
+    figures-room _ _ c.requires (omega (arith, kind-read _ _ c.requires _ c.field.ensures.0))
 
 pub returns : goal.returns
 returns c =
-    let b = c in
     ap kept.Figures c.figures_at-figures.ensures
-    ∙ figures-at _ _ b.requires (omega (arith, kind-read _ _ b.requires _ c.field.ensures.0))
+    ∙ figures-at _ _ c.requires (omega (arith, kind-read _ _ c.requires _ c.field.ensures.0))

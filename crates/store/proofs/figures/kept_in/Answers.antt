@@ -12,12 +12,10 @@ returns-then-count-number c = number-high _ _ (omega arith) (omega (arith, c.req
 
 pub kept_at-requires : goal.kept_at-requires
 kept_at-requires c =
-    let a = c in
-    (number-found _ _ _ _ _ c.used_part-s.ensures (omega arith) (omega (arith, a.requires)) c.walk-w.ensures.0 c.walk-w.ensures.1).0
+    (number-found _ _ _ _ _ c.used_part-s.ensures (omega arith) (omega (arith, c.requires)) c.walk-w.ensures.0 c.walk-w.ensures.1).0
 
 pub returns : goal.returns
 returns c =
-    let a = c in
     c.kept_at.ensures
-    ∙ (number-found _ _ _ _ _ c.used_part-s.ensures (omega arith) (omega (arith, a.requires)) c.walk-w.ensures.0
+    ∙ (number-found _ _ _ _ _ c.used_part-s.ensures (omega arith) (omega (arith, c.requires)) c.walk-w.ensures.0
     c.walk-w.ensures.1).1

@@ -1,4 +1,5 @@
 -- `store::walk::walk` meets its contract. The invariant: `count` right records stand between the first byte and `at`. Assumes nothing.
+use mathlib.Core.Path.{sym, ◌∙◌}
 use native.Mathlib.Omega.{arith}
 use Rattle.store.proofs.Right.{step-some, step-none}
 use Rattle.store.proofs.Counted.{walking-none, walking-more, walking-stops, walking-done}
@@ -7,26 +8,20 @@ use Rattle.store.proofs.walk.walk.Goals as goal
 pub loop-count-init : goal.loop-count-init
 loop-count-init c = walking-none _ _
 
-pub returns-then-step-eq0 : goal.returns-then-step-eq0
-returns-then-step-eq0 c =
+pub returns-in-None : goal.returns-in-None
+returns-in-None c =
     let W = c.loop-count.invariant in
-    (walking-stops _ _ _ _ W (step-none _ _ _ c.step_at-step.ensures c.if-step-eq0.true), W.place)
+    (walking-stops _ _ _ _ W (step-none _ _ (sym c.in-None.is ∙ c.step_at.ensures)), W.place)
 
 pub overflow_add-at : goal.overflow_add-at
 overflow_add-at c =
-    let t = step-some _ _ _ c.step_at-step.ensures c.if-step-eq0.false in
+    let t = step-some _ _ _ (sym c.in-Some.is ∙ c.step_at.ensures) in
     omega (arith, (walking-more _ _ _ _ c.loop-count.invariant _ t.0 t.1 (omega arith)).within)
 
 pub loop-count-preserved : goal.loop-count-preserved
 loop-count-preserved c =
-    let t = step-some _ _ _ c.step_at-step.ensures c.if-step-eq0.false in
+    let t = step-some _ _ _ (sym c.in-Some.is ∙ c.step_at.ensures) in
     walking-more _ _ _ _ c.loop-count.invariant _ t.0 t.1 (omega arith)
 
 pub returns : goal.returns
-returns c = let W = c.loop-count.invariant in (walking-done _ _ _ _ W (omega arith), W.place)
-
-pub overflow_add-count : goal.overflow_add-count
-overflow_add-count c = omega arith
-
-pub loop-count-smaller : goal.loop-count-smaller
-loop-count-smaller c = omega arith
+returns c = walking-done _ _ _ _ c.loop-count.invariant (omega arith)

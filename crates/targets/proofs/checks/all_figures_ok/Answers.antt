@@ -33,38 +33,23 @@ loop-i-init c =
 
 pub loop-i-preserved : goal.loop-i-preserved
 loop-i-preserved c =
-    let p = c in
-    let a = p.args in
-    let e = test_at a.capacities.now a.priors.now p.loop-i.i _ c.entry_of.ensures c.figures_ok.ensures in (
+    let a = c.args in
+    let e = test_at a.capacities.now a.priors.now c.loop-i.i _ c.entry_of.ensures c.figures_ok.ensures in (
       search rules,
-      p.loop-i.invariant.1,
-      all_more p.loop-i.i (figures_ok_at a.capacities.now a.priors.now) p.loop-i.invariant.2
-          (sym e ∙ c.if-figures_ok.true),
+      c.loop-i.invariant.1,
+      all_more c.loop-i.i (figures_ok_at a.capacities.now a.priors.now) c.loop-i.invariant.2
+          (sym e ∙ c.if-not-figures_ok.false),
     )
 
-pub returns-else-figures_ok : goal.returns-else-figures_ok
+pub returns-then-not-figures_ok : goal.returns-then-not-figures_ok
 unfolding all_figures_ok
-returns-else-figures_ok c =
-    let p = c in
-    let a = p.args in
-    let e = test_at a.capacities.now a.priors.now p.loop-i.i _ c.entry_of.ensures c.figures_ok.ensures in
-    sym (all-fails a.people p.loop-i.i (figures_ok_at a.capacities.now a.priors.now) (omega arith) (sym e ∙ c.if-figures_ok.false))
+returns-then-not-figures_ok c =
+    let a = c.args in
+    let e = test_at a.capacities.now a.priors.now c.loop-i.i _ c.entry_of.ensures c.figures_ok.ensures in
+    sym (all-fails a.people c.loop-i.i (figures_ok_at a.capacities.now a.priors.now) (omega arith) (sym e ∙ c.if-not-figures_ok.true))
 
 pub returns : goal.returns
 unfolding all_figures_ok
 returns c =
-    let p = c in
-    let a = p.args in
-    all_done a.people p.loop-i.i (figures_ok_at a.capacities.now a.priors.now) (omega arith) (omega arith) p.loop-i.invariant.2
-
-pub offset_bounds-capacities-i : goal.offset_bounds-capacities-i
-offset_bounds-capacities-i c = omega arith
-
-pub bounds-capacities-i : goal.bounds-capacities-i
-bounds-capacities-i c = omega arith
-
-pub overflow_add-i : goal.overflow_add-i
-overflow_add-i c = omega arith
-
-pub loop-i-smaller : goal.loop-i-smaller
-loop-i-smaller c = omega arith
+    let a = c.args in
+    all_done a.people c.loop-i.i (figures_ok_at a.capacities.now a.priors.now) (omega arith) (omega arith) c.loop-i.invariant.2

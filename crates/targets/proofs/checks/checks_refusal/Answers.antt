@@ -8,10 +8,9 @@ use Rattle.targets.proofs.checks.checks_refusal.Goals as goal
 pub returns : goal.returns
 unfolding checks_row room_row
 returns c =
-    let b = c in
-    checked _ refl b.accepted.ensures
-    (link b.check_people-f.ensures
-    (link b.check_slots-f.ensures (link b.check_room-f.ensures
-    (link b.check_words-f.ensures (link b.check-f.ensures (link b.check-f-2.ensures
-    (link b.check-f-3.ensures (link c.check_figures-f.ensures (link c.check-f-4.ensures
+    checked _ refl c.accepted.ensures
+    (link c.check_people-f.ensures
+    (link c.check_slots-f.ensures (link c.check_room-f.ensures
+    (link c.check_words-f.ensures (link c.check-f.ensures (link c.check-f-2.ensures
+    (link c.check-f-3.ensures (link c.check_figures-f.ensures (link c.check-f-4.ensures
     (link c.check-f-5.ensures (link c.check_order.ensures ends)))))))))))

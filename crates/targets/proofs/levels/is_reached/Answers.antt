@@ -2,10 +2,10 @@
 use Rattle.targets.specs.Levels.{reached}
 use Rattle.targets.proofs.levels.is_reached.Goals as goal
 
-pub returns-then-l : goal.returns-then-l
+pub returns-then-not-l : goal.returns-then-not-l
 unfolding reached
-returns-then-l c = rw c.if-l.true
+returns-then-not-l c = rw c.if-not-l.true
 
-pub returns : goal.returns
+pub returns-else-not-l : goal.returns-else-not-l
 unfolding reached
-returns c = rw c.if-l.false
+returns-else-not-l c = rw c.if-not-l.false

@@ -4,9 +4,8 @@ use Rattle.targets.proofs.levels.lifted_standing.Goals as goal
 
 pub returns-then-is_reached : goal.returns-then-is_reached
 returns-then-is_reached c =
-    let e = c in
-    let a = e.args in
-    standing_on a.level a.left a.l e.is_reached.ensures c.if-is_reached.true c.on_level-target.ensures
+    let a = c.args in
+    standing_on a.level a.left a.l c.is_reached.ensures c.if-is_reached.true c.on_level-target.ensures
 
 pub returns : goal.returns
 returns c =

@@ -1,12 +1,9 @@
--- `targets::passes::passes_of` meets its contract. Assumes nothing.
+-- `targets::passes::passes_of` meets its contract: the passes that are left do the rest. Assumes nothing.
 use Rattle.std.proofs.Common.{◌≡◌, ◌+◌, ◌-◌, ◌≤◌}
-use Rattle.targets.specs.Passes.{passes}
-use Rattle.targets.specs.Inside.{passed_of}
+use Rattle.targets.specs.Passes.{passes, again}
 use Rattle.targets.proofs.passes.passes_of.Given as goal
 
 abbrev pub invariant-loop-k : goal.invariant-loop-k
 invariant-loop-k l =
-    (l.k ≤ l.people + 1) × (passes (l.people + 1 - l.k) l.demand (passed_of l.r) ≡ passes (l.people + 1) l.demand (passed_of l.initial.r))
-
-abbrev pub decreases-loop-k : goal.decreases-loop-k
-decreases-loop-k l = l.people + 1 - l.k
+    (l._k ≤ l.people + 1)
+    × (passes (l.people + 1 - l._k) l.demand (again l.left) ≡ passes (l.people + 1) l.demand (again l.fn.standings))

@@ -1,26 +1,13 @@
--- `targets::passes::some_outside` meets its contract: what is left to look at says as much as the whole. Assumes nothing.
-use Rattle.std.proofs.Common.{refl, arith, rules}
+-- `targets::passes::some_outside` meets its contract. Assumes nothing.
+use Rattle.std.proofs.Common.{◌∙◌, rules, tests}
+use Rattle.std.proofs.lemmas.Iterator.{YieldsList-from_slice}
+use Rattle.std.proofs.lemmas.Iterator.Search.{any_from_yields_List}
 use Rattle.targets.specs.Passes.{outside}
-use Rattle.targets.proofs.Loops.{found, missed, nowhere}
+use Rattle.targets.proofs.Each.{any-some}
 use Rattle.targets.proofs.passes.some_outside.Goals as goal
-
-pub loop-i-init : goal.loop-i-init
-loop-i-init c = (search rules, refl)
-
-pub returns-then-is_outside : goal.returns-then-is_outside
-returns-then-is_outside c =
-    let a = c.args in
-    let p = c.loop-i in
-    found (outside a.n a.sum) a.standings p.i _ p.invariant.1 c.is_outside.ensures c.if-is_outside.true (omega arith)
-
-pub loop-i-preserved : goal.loop-i-preserved
-loop-i-preserved c =
-    let a = c.args in
-    let p = c.loop-i in
-    let h = missed (outside a.n a.sum) a.standings p.i _ p.invariant.1 c.is_outside.ensures c.if-is_outside.false (omega arith) in
-    (search rules, h)
 
 pub returns : goal.returns
 returns c =
-    let a = c.args in
-    nowhere (outside a.n a.sum) a.standings c.loop-i.i c.loop-i.invariant.1 (omega arith)
+    any_from_yields_List (outside c.args.n c.args.sum) _ _ _ c.any.ensures.ran (YieldsList-from_slice c.args.standings cc)
+    (λ l b q k. search (rules, tests))
+    ∙ any-some (outside c.args.n c.args.sum) c.args.standings

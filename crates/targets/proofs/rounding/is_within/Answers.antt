@@ -14,4 +14,4 @@ pub returns-else-x : goal.returns-else-x
 unfolding of_bits neg
 returns-else-x c =
     let x = c.args.x in
-    ap (λ (b : Bool). b && lt x (fin false 1 (pos 40))) (sym c.if-x.false) ∙ guard_test x
+    c.if-x.false ∙ ap (λ (b : Bool). b && lt x (fin false 1 (pos 40))) (sym c.if-x.false) ∙ guard_test x

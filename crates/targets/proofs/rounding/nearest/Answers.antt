@@ -4,10 +4,14 @@ use Rattle.targets.proofs.Nearest.{nearest-of, held}
 use Rattle.targets.proofs.rounding.nearest.Goals as goal
 
 pub truncating_f64_to_u64-requires : goal.truncating_f64_to_u64-requires
-truncating_f64_to_u64-requires c = record { lower_bound = (nearest-of c.args.x (held c.well_formed.0.1) c.requires.0 c.requires.1).low; upper_bound = (nearest-of c.args.x (held c.well_formed.0.1) c.requires.0 c.requires.1).high }
+truncating_f64_to_u64-requires c =
+    let n = nearest-of c.args.x (held c.well_formed.0.1) c.requires.0 c.requires.1 in
+    record { lower_bound = n.low; upper_bound = n.high }
 
 pub overflow_add-result : goal.overflow_add-result
-overflow_add-result c = omega (arith, c.truncating_f64_to_u64.ensures, (nearest-of c.args.x (held c.well_formed.0.1) c.requires.0 c.requires.1).small)
+overflow_add-result c =
+    let n = nearest-of c.args.x (held c.well_formed.0.1) c.requires.0 c.requires.1 in
+    omega (arith, c.truncating_f64_to_u64.ensures, n.small)
 
 pub returns : goal.returns
 returns c =

@@ -11,9 +11,6 @@ loop-k-init c =
     let a = c.args in
     (search rules, sym (sum-none (minutes_if_available a.starts.now a.ends.now a.avail.now a.person)))
 
-pub minutes_if_available-total-requires : goal.minutes_if_available-total-requires
-minutes_if_available-total-requires c = (c.requires.0, omega arith)
-
 -- what the total is after one turn
 more : (f : ℕ → ℕ) (k total m : ℕ) → total ≡ sum k f → m ≡ f k → total + m ≡ sum (k + 1) f
 more f k total m is got = ap₂ (λ (x y : ℕ). x + y) is got ∙ sym (sum_more k f)
@@ -35,13 +32,6 @@ loop-k-preserved c =
 pub returns : goal.returns
 unfolding available_minutes
 returns c =
-    let p = c in
-    let a = p.args in
-    sum_done a.slots p.loop-k.k p.loop-k.total (minutes_if_available a.starts.now a.ends.now a.avail.now a.person)
-    (omega arith) (omega arith) p.loop-k.invariant.1
-
-pub overflow_add-k : goal.overflow_add-k
-overflow_add-k c = omega arith
-
-pub loop-k-smaller : goal.loop-k-smaller
-loop-k-smaller c = omega arith
+    let a = c.args in
+    sum_done a.slots c.loop-k.k c.loop-k.total (minutes_if_available a.starts.now a.ends.now a.avail.now a.person)
+    (omega arith) (omega arith) c.loop-k.invariant.1

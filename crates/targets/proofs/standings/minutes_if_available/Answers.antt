@@ -1,28 +1,23 @@
 -- `targets::standings::minutes_if_available` meets its contract. Assumes nothing.
+use Rattle.std.proofs.Common.{Ok, ap, ◌∙◌}
 use Rattle.targets.proofs.Minutes.{answered-yes, yes-no-refused, answered-refused}
 use Rattle.targets.proofs.standings.minutes_if_available.Goals as goal
 
-pub returns-in-Yes : goal.returns-in-Yes
-returns-in-Yes c =
-    let p = c in
-    let e = p in
-    let a = e.args in
-    answered-yes a.people a.person a.slots a.starts.now a.ends.now a.avail.now a.k e.requires.0 e.requires.1
-    p.contains-answer.result p.contains-answer.ensures c.in-Yes.is c.minutes_at.ensures
+pub returns-in-Ok-true : goal.returns-in-Ok-true
+returns-in-Ok-true c =
+    let a = c.args in
+    answered-yes a.people a.person a.slots a.starts.now a.ends.now a.avail.now a.k c.requires.0 c.requires.1
+    c.contains.result c.contains.ensures (c.in-Ok-true.is ∙ ap Ok c.in-Ok-true.field-0-test) c.minutes_at.ensures
 
-pub returns-in-No : goal.returns-in-No
-returns-in-No c =
-    let p = c in
-    let e = p in
-    let a = e.args in
-    yes-no-refused a.people a.person a.slots a.starts.now a.ends.now a.avail.now a.k e.requires.0 e.requires.1
-    p.contains-answer.result p.contains-answer.ensures c.in-No.is
+pub returns-in-Ok-false : goal.returns-in-Ok-false
+returns-in-Ok-false c =
+    let a = c.args in
+    yes-no-refused a.people a.person a.slots a.starts.now a.ends.now a.avail.now a.k c.requires.0 c.requires.1
+    c.contains.result c.contains.ensures (c.in-Ok-false.is ∙ ap Ok c.in-Ok-false.field-0-test)
 
-pub returns-in-Refused : goal.returns-in-Refused
-returns-in-Refused c =
-    let p = c in
-    let e = p in
-    let a = e.args in
+pub returns-in-Err : goal.returns-in-Err
+returns-in-Err c =
+    let a = c.args in
     absurd
-    (answered-refused a.people a.person a.slots a.starts.now a.ends.now a.avail.now a.k e.requires.0 e.requires.1
-    p.contains-answer.result p.contains-answer.ensures c.in-Refused.is)
+    (answered-refused a.people a.person a.slots a.starts.now a.ends.now a.avail.now a.k c.requires.0 c.requires.1
+    c.contains.result c.contains.ensures c.in-Err.is)

@@ -8,7 +8,6 @@ use Rattle.targets.proofs.standings.standings_of.Given as goal
 abbrev pub invariant-loop-i : goal.invariant-loop-i
 invariant-loop-i l =
     (l.i ≤ l.people)
-    × (l.out ≡ up_to (standing_in (given l.people l.slots l.starts l.ends l.avail l.capacities l.priors l.fairness 0)) l.i ++ replicate (32 - l.i) pad)
-
-abbrev pub decreases-loop-i : goal.decreases-loop-i
-decreases-loop-i l = l.people - l.i
+    × (l.out
+    ≡ up_to (standing_in (given l.people l.slots l.starts l.ends l.avail l.capacities l.priors l.fairness 0)) l.i
+    ++ replicate (32 - l.i) pad)

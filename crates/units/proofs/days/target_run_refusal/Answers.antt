@@ -7,7 +7,6 @@ use Rattle.units.proofs.days.target_run_refusal.Goals as goal
 pub returns : goal.returns
 unfolding target_run_row
 returns c =
-    let b = c in
-    checked _ refl b.accepted.ensures
+    checked _ refl c.accepted.ensures
     (link c.check_slots-f.ensures (link c.check_room-f.ensures
     (link c.check_settings-f.ensures (link c.check_order.ensures ends))))

@@ -22,9 +22,8 @@ write_domain-requires c = slot-domain-says _ _ _ _ _ (sym (said _ c.slot_domain_
 pub returns-then-n-eq0 : goal.returns-then-n-eq0
 unfolding slot_domain_is
 returns-then-n-eq0 c =
-    let c4 = c in
     let w = c.write_domain.ensures in
-    written-answered _ _ _ _ _ _ _ (said _ c4.slot_domain_refusal-n.ensures) c4.if-n-eq0.true w.value w.list_after
+    written-answered _ _ _ _ _ _ _ (said _ c.slot_domain_refusal-n.ensures) c.if-n-eq0.true w.value w.list_after
     (slot-domain-same _ _ _)
 
 pub returns-else-n-eq0 : goal.returns-else-n-eq0

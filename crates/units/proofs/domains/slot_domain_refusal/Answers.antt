@@ -7,7 +7,6 @@ use Rattle.units.proofs.domains.slot_domain_refusal.Goals as goal
 pub returns : goal.returns
 unfolding slot_domain_row
 returns c =
-    let b = c in
-    checked _ refl b.accepted.ensures
-    (link b.check_people-f.ensures (link c.check_slots-f.ensures (link c.check_words-f.ensures
+    checked _ refl c.accepted.ensures
+    (link c.check_people-f.ensures (link c.check_slots-f.ensures (link c.check_words-f.ensures
     (link c.check-f.ensures (link c.check.ensures ends)))))

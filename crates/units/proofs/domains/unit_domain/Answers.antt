@@ -8,18 +8,16 @@ use Rattle.units.proofs.domains.unit_domain.Goals as goal
 
 pub write_domain-requires : goal.write_domain-requires
 write_domain-requires c =
-    let c4 = c in
-    let n = said _ c4.unit_domain_refusal-n.ensures in
+    let n = said _ c.unit_domain_refusal-n.ensures in
     unit-domain-says _ _ _ _ _ _ _ _ (sym n ∙ c.if-n-eq0.true) c.unit_end-to.ensures
 
 pub returns-then-n-eq0 : goal.returns-then-n-eq0
 unfolding unit_domain_is
 returns-then-n-eq0 c =
-    let c4 = c in
     let w = c.write_domain.ensures in
-    let n = said _ c4.unit_domain_refusal-n.ensures in
-    let s = domain-at _ _ _ _ _ _ _ _ c4.start_of-from.ensures c4.unit_end-to.ensures in
-    written-answered _ _ _ _ _ _ _ n c4.if-n-eq0.true w.value w.list_after s
+    let n = said _ c.unit_domain_refusal-n.ensures in
+    let s = domain-at _ _ _ _ _ _ _ _ c.start_of-from.ensures c.unit_end-to.ensures in
+    written-answered _ _ _ _ _ _ _ n c.if-n-eq0.true w.value w.list_after s
 
 pub returns-else-n-eq0 : goal.returns-else-n-eq0
 unfolding unit_domain_is

@@ -7,8 +7,7 @@ use Rattle.units.proofs.domains.unit_domain_refusal.Goals as goal
 pub returns : goal.returns
 unfolding unit_domain_row
 returns c =
-    let b = c in
-    checked _ refl b.accepted.ensures
-    (link b.check_people-f.ensures (link b.check_slots-f.ensures (link b.check_words-f.ensures
+    checked _ refl c.accepted.ensures
+    (link c.check_people-f.ensures (link c.check_slots-f.ensures (link c.check_words-f.ensures
     (link c.check-f.ensures (link c.check-f-2.ensures (link c.check_units-f.ensures
     (link c.check.ensures ends)))))))

@@ -4,9 +4,10 @@ use Rattle.units.specs.Domains.{domain}
 use Rattle.units.proofs.Sets.{able-known}
 use native.Mathlib.Omega.{arith}
 use Rattle.paper.proofs.Logic.{people-says}
-use Rattle.units.proofs.Collect.{collect-none, collect-few, collect-length}
+use Rattle.units.proofs.Collect.{collect-none, collect-few}
 use Rattle.units.proofs.Collect.{collect-room, collect-in, collect-out, collect-end}
 use Rattle.units.proofs.domains.write_domain.Goals as goal
+use Rattle.units.proofs.domains.write_domain.Goals.{then-able, else-able}
 
 pub loop-p-init : goal.loop-p-init
 loop-p-init c = (collect-none _ _ _ c.requires.room, c.requires)
@@ -20,37 +21,19 @@ bounds-list-n c = collect-room _ _ _ _ _ _ c.loop-p.invariant.0 c.loop-p-test.tr
 pub overflow_add-n : goal.overflow_add-n
 overflow_add-n c = omega (arith, collect-few _ _ _ _ _ _ c.loop-p.invariant.0)
 
-pub loop-p-preserved-then-able : goal.loop-p-preserved-then-able
-loop-p-preserved-then-able c =
-    let at = c.loop-p in
-    let k = able-known _ _ _ _ at.invariant.1 _ _ c.loop-p-test.true in
-    let t = sym k ∙ sym c.able.ensures ∙ c.if-able.true in
-    (collect-in _ _ _ _ _ _ at.invariant.0 c.loop-p-test.true t, at.invariant.1)
-
 pub loop-p-preserved : goal.loop-p-preserved
 loop-p-preserved c =
     let at = c.loop-p in
     let k = able-known _ _ _ _ at.invariant.1 _ _ c.loop-p-test.true in
-    let f = sym k ∙ sym c.able.ensures ∙ c.if-able.false in
-    (collect-out _ _ _ _ _ _ at.invariant.0 c.loop-p-test.true f, at.invariant.1)
-
-pub shape_of-list : goal.shape_of-list
-shape_of-list c = collect-length _ _ _ _ _ _ c.loop-p.invariant.0
+    elim c.if-able.branch [
+      | then-able w ↦ rw (w.list-is, w.n-is)
+          (collect-in _ _ _ _ _ _ at.invariant.0 c.loop-p-test.true (sym k ∙ sym c.able.ensures ∙ w.if-able.true), at.invariant.1)
+      | else-able w ↦ rw (w.list-is, w.n-is)
+          (collect-out _ _ _ _ _ _ at.invariant.0 c.loop-p-test.true (sym k ∙ sym c.able.ensures ∙ w.if-able.false), at.invariant.1)
+    ]
 
 pub returns : goal.returns
 unfolding domain
 returns c =
     let whole = collect-end _ _ _ _ _ _ c.loop-p.invariant.0 c.loop-p-test.false in
     record { value = whole.0; list_after = whole.1 }
-
-pub overflow_add-p : goal.overflow_add-p
-overflow_add-p c = omega arith
-
-pub loop-p-smaller-then-able : goal.loop-p-smaller-then-able
-loop-p-smaller-then-able c = omega arith
-
-pub overflow_add-p-else-able : goal.overflow_add-p-else-able
-overflow_add-p-else-able c = omega arith
-
-pub loop-p-smaller : goal.loop-p-smaller
-loop-p-smaller c = omega arith

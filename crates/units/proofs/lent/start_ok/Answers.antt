@@ -1,11 +1,7 @@
 -- `units::lent::start_ok` meets its contract. Assumes nothing.
 use mathlib.Core.Path.{sym}
-use native.Mathlib.Omega.{arith}
 use Rattle.units.proofs.Units.{rises-first, rises-later, start-past, start-within}
 use Rattle.units.proofs.lent.start_ok.Goals as goal
-
-pub overflow_cast-first : goal.overflow_cast-first
-overflow_cast-first c = omega (arith, c.shared_slice_known-1.given c.args.u)
 
 pub returns-then-slots-first : goal.returns-then-slots-first
 returns-then-slots-first c = sym (start-past _ _ _ c.if-slots-first.true)

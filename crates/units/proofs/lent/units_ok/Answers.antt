@@ -1,6 +1,5 @@
 -- `units::lent::units_ok` meets its contract. Assumes nothing.
 use mathlib.Core.Path.{sym, ◌∙◌}
-use native.Mathlib.Omega.{arith}
 use borrow.Author.Rules.{rules}
 use borrow.Author.Tests.{lt-leb, le-leb}
 use Rattle.paper.proofs.Count.{all_none, all_more, all-fails, all_done}
@@ -21,26 +20,17 @@ loop-u-init c = (search rules, all_none _, search rules, search rules)
 pub loop-u-preserved : goal.loop-u-preserved
 loop-u-preserved c =
     let at = c.loop-u in
-    (search rules, all_more _ _ at.invariant.1 (sym c.start_ok.ensures ∙ c.if-start_ok.true), at.invariant.2, at.invariant.3)
+    (search rules, all_more _ _ at.invariant.1 (sym c.start_ok.ensures ∙ c.if-not-start_ok.false), at.invariant.2, at.invariant.3)
 
-pub returns-else-start_ok : goal.returns-else-start_ok
+pub returns-then-not-start_ok : goal.returns-then-not-start_ok
 unfolding units_ok
-returns-else-start_ok c =
+returns-then-not-start_ok c =
     let at = c.loop-u in
     simp (le-leb 1 _ at.invariant.2, le-leb _ _ at.invariant.3)
-    (sym (all-fails _ _ _ c.loop-u-test.true (sym c.start_ok.ensures ∙ c.if-start_ok.false)))
+    (sym (all-fails _ _ _ c.loop-u-test.true (sym c.start_ok.ensures ∙ c.if-not-start_ok.true)))
 
 pub returns : goal.returns
 unfolding units_ok
 returns c =
     let at = c.loop-u in
     simp (le-leb 1 _ at.invariant.2, le-leb _ _ at.invariant.3) (all_done _ _ _ at.invariant.0 c.loop-u-test.false at.invariant.1)
-
-pub start_ok-requires : goal.start_ok-requires
-start_ok-requires c = omega arith
-
-pub overflow_add-u : goal.overflow_add-u
-overflow_add-u c = omega arith
-
-pub loop-u-smaller : goal.loop-u-smaller
-loop-u-smaller c = omega arith

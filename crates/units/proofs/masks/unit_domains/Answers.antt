@@ -9,8 +9,7 @@ write_masks-requires c = unit-domains-say _ _ _ _ _ _ (sym (said _ c.unit_domain
 
 pub returns-then-n-eq0 : goal.returns-then-n-eq0
 returns-then-n-eq0 c =
-    let b4 = c in
-    let whole = domains-answered _ _ _ _ _ _ _ (said _ b4.unit_domains_refusal-n.ensures) _ b4.if-n-eq0.true
+    let whole = domains-answered _ _ _ _ _ _ _ (said _ c.unit_domains_refusal-n.ensures) _ c.if-n-eq0.true
     c.write_masks.ensures in
     record { value = whole.0; masks_after = whole.1 }
 

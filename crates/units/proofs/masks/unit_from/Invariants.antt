@@ -1,10 +1,7 @@
 -- `units::masks::unit_from` meets its contract. Assumes nothing.
-use Prim.Native.Nat.{◌-◌, ◌≤◌, ◌<◌}
+use Prim.Native.Nat.{◌≤◌, ◌<◌}
 use Rattle.units.specs.Units.{unit_start}
 use Rattle.units.proofs.masks.unit_from.Given as goal
 
 abbrev pub invariant-loop-v : goal.invariant-loop-v
-invariant-loop-v l = (l.u ≤ l.v) × (l.v < l.units) × (unit_start l.begins l.v ≤ l.slot)
-
-abbrev pub decreases-loop-v : goal.decreases-loop-v
-decreases-loop-v l = l.units - l.v
+invariant-loop-v l = (l.v < l.units) × (unit_start l.begins l.v ≤ l.slot)

@@ -1,8 +1,6 @@
 -- `units::masks::write_masks` meets its contract. Assumes nothing.
-use mathlib.Core.Path.{ap, ◌∙◌, refl}
+use mathlib.Core.Path.{◌∙◌, refl}
 use native.Mathlib.Omega.{arith}
-use lib.ListN.{length}
-use Rattle.paper.proofs.Count.{length_over}
 use Rattle.paper.proofs.Logic.{people-says}
 use Rattle.units.proofs.Striking.{strikes-begin, strikes-end, strikes-held, strikes-again, room-kept}
 use Rattle.units.proofs.masks.write_masks.Goals as goal
@@ -20,29 +18,20 @@ loop-p-init c =
 
 pub strike_person-requires : goal.strike_person-requires
 strike_person-requires c =
-    let b4 = c in
     let e = c.loop-p.invariant.1 in
-    let full = b4.fill_masks.ensures ∙ strikes-begin _ _ _ _ _ _ in
-    let R = b4.requires in record { mask_room = room-kept _ _ _ _ _ _ _ _ _ e (room-kept _ _ _ _ _ _ _ _ _ full R); person_lt_people = c.loop-p-test.true; masks_value = strikes-held _ _ _ _ _ _ _ _ _ _ e refl }
+    let full = c.fill_masks.ensures ∙ strikes-begin _ _ _ _ _ _ in
+    record {
+      mask_room = room-kept _ _ _ _ _ _ _ _ _ e (room-kept _ _ _ _ _ _ _ _ _ full c.requires);
+      person_lt_people = c.loop-p-test.true;
+      masks_value = strikes-held _ _ _ _ _ _ _ _ _ _ e refl;
+    }
 
 pub loop-p-preserved : goal.loop-p-preserved
 loop-p-preserved c =
     let e = c.loop-p.invariant.1 in
     (omega arith, strikes-again _ _ _ _ _ _ _ _ _ _ _ _ e c.strike_person.ensures)
 
-pub shape_of-masks : goal.shape_of-masks
-shape_of-masks c =
-    let b4 = c in
-    ap length c.loop-p.invariant.1 ∙ length_over _ _ _ ∙ ap length b4.fill_masks.ensures ∙ length_over _ _ _
-
 pub returns : goal.returns
 returns c =
-    let b4 = c in
-    let full = b4.fill_masks.ensures ∙ strikes-begin _ _ _ _ _ _ in
+    let full = c.fill_masks.ensures ∙ strikes-begin _ _ _ _ _ _ in
     strikes-again _ _ _ _ _ _ _ _ _ _ _ _ full c.loop-p.invariant.1 ∙ strikes-end _ _ _ _ _ _ _ (omega arith)
-
-pub overflow_add-p : goal.overflow_add-p
-overflow_add-p c = omega arith
-
-pub loop-p-smaller : goal.loop-p-smaller
-loop-p-smaller c = omega arith

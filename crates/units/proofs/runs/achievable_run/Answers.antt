@@ -2,8 +2,8 @@
 use mathlib.Core.Path.{sym, ◌∙◌}
 use Rattle.units.specs.Achievable.{achievable_run_is}
 use Rattle.units.proofs.Reach.{run-says, target-some, reach-at}
-use Rattle.slots.proofs.LentLaws.{minutes-is, minutes-refusal}
 use Rattle.paper.proofs.Rows.{said}
+use Rattle.slotset.proofs.Refusals.{answer-is, answer-refused}
 use Rattle.units.proofs.runs.achievable_run.Goals as goal
 
 pub run_minutes-target-requires : goal.run_minutes-target-requires
@@ -20,8 +20,8 @@ pub returns-then-n-eq0 : goal.returns-then-n-eq0
 unfolding achievable_run_is
 returns-then-n-eq0 c =
     let m = reach-at _ _ _ _ _ _ _ _ c.run_minutes-target.ensures c.longest_run.ensures in
-    minutes-is _ _ (said _ c.achievable_run_refusal-n.ensures) c.if-n-eq0.true _ _ m
+    answer-is _ _ (said _ c.achievable_run_refusal-n.ensures) c.if-n-eq0.true _ _ m
 
 pub returns-else-n-eq0 : goal.returns-else-n-eq0
 unfolding achievable_run_is
-returns-else-n-eq0 c = minutes-refusal _ _ (said _ c.achievable_run_refusal-n.ensures) c.if-n-eq0.false _
+returns-else-n-eq0 c = answer-refused _ _ (said _ c.achievable_run_refusal-n.ensures) c.if-n-eq0.false _

@@ -11,15 +11,13 @@ run_minutes-target-requires c =
 
 pub write_runs-requires : goal.write_runs-requires
 write_runs-requires c =
-    let b = c in
-    let r = runs-say _ _ _ _ _ _ _ (sym (said _ b.achievable_runs_refusal-n.ensures) ∙ b.if-n-eq0.true) in
+    let r = runs-say _ _ _ _ _ _ _ (sym (said _ c.achievable_runs_refusal-n.ensures) ∙ c.if-n-eq0.true) in
     record { runs_sound = r.0; people_in_bounds = (r.1, target-some _ _ _ _ _ c.run_minutes-target.ensures) }
 
 pub returns-then-n-eq0 : goal.returns-then-n-eq0
 returns-then-n-eq0 c =
-    let b4 = c in
-    let whole = runs-answered _ _ _ _ _ _ _ _ (said _ b4.achievable_runs_refusal-n.ensures) _ _ b4.if-n-eq0.true
-    b4.run_minutes-target.ensures c.write_runs.ensures in
+    let whole = runs-answered _ _ _ _ _ _ _ _ (said _ c.achievable_runs_refusal-n.ensures) _ _ c.if-n-eq0.true
+    c.run_minutes-target.ensures c.write_runs.ensures in
     record { value = whole.0; runs_after = whole.1 }
 
 pub returns : goal.returns

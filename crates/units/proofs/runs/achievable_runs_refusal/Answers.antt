@@ -7,8 +7,7 @@ use Rattle.units.proofs.runs.achievable_runs_refusal.Goals as goal
 pub returns : goal.returns
 unfolding achievable_runs_row
 returns c =
-    let b = c in
-    checked _ refl b.accepted.ensures
-    (link b.check_people-f.ensures (link b.check_slots-f.ensures (link b.check_room-f.ensures
+    checked _ refl c.accepted.ensures
+    (link c.check_people-f.ensures (link c.check_slots-f.ensures (link c.check_room-f.ensures
     (link c.check_words-f.ensures (link c.check-f.ensures
     (link c.check_settings-f.ensures (link c.check_order.ensures ends)))))))

@@ -22,32 +22,28 @@ next_gap-gap-requires c =
 
 pub minutes_in-requires : goal.minutes_in-requires
 minutes_in-requires c =
-    let b4 = c in
     let G = c.next_gap-gap.ensures in
-    (b4.requires.runs_sound.lent, G.from, G.within)
+    (c.requires.runs_sound.lent, G.from, G.within)
 
 pub returns-then-target-best : goal.returns-then-target-best
 unfolding longest_run
 returns-then-target-best c =
-    let b4 = c in
     let G = c.next_gap-gap.ensures in
-    let o = b4.requires.person_lt_people.1 in
-    pass-reached _ _ _ _ _ _ b4.next_had-had.ensures G _ _ _ _ b4.loop-at.invariant c.minutes_in.ensures
-    c.greater-best.ensures o c.if-target-best.true
+    let o = c.requires.person_lt_people.1 in
+    pass-reached _ _ _ _ _ _ c.next_had-had.ensures G _ _ _ _ c.loop-at.invariant c.minutes_in.ensures
+    c.max-best.ensures o c.if-target-best.true
 
 pub loop-at-smaller : goal.loop-at-smaller
 loop-at-smaller c =
-    let b4 = c in
     let G = c.next_gap-gap.ensures in
-    let test = b4.loop-at-test.true in
-    omega (arith, gets-on _ _ _ _ _ b4.next_had-had.ensures G test)
+    let test = c.loop-at-test.true in
+    omega (arith, gets-on _ _ _ _ _ c.next_had-had.ensures G test)
 
 pub loop-at-preserved : goal.loop-at-preserved
 loop-at-preserved c =
-    let b4 = c in
     let G = c.next_gap-gap.ensures in
-    pass-more _ _ _ _ _ _ b4.next_had-had.ensures G _ _ _ _ b4.loop-at.invariant c.minutes_in.ensures
-    c.greater-best.ensures c.if-target-best.false
+    pass-more _ _ _ _ _ _ c.next_had-had.ensures G _ _ _ _ c.loop-at.invariant c.minutes_in.ensures
+    c.max-best.ensures c.if-target-best.false
 
 pub returns : goal.returns
 unfolding longest_run

@@ -4,7 +4,7 @@ use native.Mathlib.Omega.{arith}
 use Rattle.paper.proofs.Count.{sum-in-none}
 use Rattle.slots.specs.Lent.{minutes_at}
 use Rattle.slots.proofs.LentLaws.{slots-sound}
-use Rattle.units.proofs.Reach.{part-fits, part-more, part-more-fits, part-done}
+use Rattle.units.proofs.Reach.{part-more, part-more-fits, part-done}
 use Rattle.units.proofs.runs.minutes_in.Goals as goal
 
 pub loop-k-init : goal.loop-k-init
@@ -41,19 +41,7 @@ loop-k-preserved c =
     let inv = c.loop-k.invariant in
     (omega arith, omega arith, part-more _ _ _ pre.0 _ _ _ _ inv.0 inv.2 refl)
 
-pub overflow_cast-result : goal.overflow_cast-result
-overflow_cast-result c =
-    let inv = c.loop-k.invariant in
-    let pre = c.requires in
-    omega (arith, inv.2, part-fits _ _ _ pre.0 _ _ inv.0 (omega arith))
-
 pub returns : goal.returns
 returns c =
     let inv = c.loop-k.invariant in
     part-done _ _ _ c.requires.0 _ _ _ _ inv.1 c.loop-k-test.false inv.2
-
-pub overflow_add-k : goal.overflow_add-k
-overflow_add-k c = omega arith
-
-pub loop-k-smaller : goal.loop-k-smaller
-loop-k-smaller c = omega arith

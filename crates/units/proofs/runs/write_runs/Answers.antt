@@ -2,7 +2,7 @@
 use mathlib.Core.Path.{sym}
 use native.Mathlib.Omega.{arith}
 use Rattle.paper.proofs.Count.{over_none}
-use Rattle.units.proofs.Reach.{written-long, written-more, written-done}
+use Rattle.units.proofs.Reach.{written-more, written-done}
 use Rattle.units.proofs.runs.write_runs.Goals as goal
 
 pub loop-p-init : goal.loop-p-init
@@ -13,24 +13,10 @@ longest_run-requires c =
     let pre = c.requires in
     record { runs_sound = pre.runs_sound; person_lt_people = (c.loop-p-test.true, pre.people_in_bounds.1) }
 
-pub bounds-runs-p : goal.bounds-runs-p
-bounds-runs-p c =
-    let pre = c.requires in
-    omega (arith, written-long _ _ _ _ c.loop-p.invariant.1, pre.people_in_bounds.0, c.loop-p-test.true)
-
 pub loop-p-preserved : goal.loop-p-preserved
 loop-p-preserved c = (omega arith, written-more _ _ _ _ c.loop-p.invariant.1 _ c.longest_run.ensures)
-
-pub shape_of-runs : goal.shape_of-runs
-shape_of-runs c = written-long _ _ _ _ c.loop-p.invariant.1
 
 pub returns : goal.returns
 returns c =
     let inv = c.loop-p.invariant in
     written-done _ _ _ _ inv.1 _ inv.0 c.loop-p-test.false
-
-pub overflow_add-p : goal.overflow_add-p
-overflow_add-p c = omega arith
-
-pub loop-p-smaller : goal.loop-p-smaller
-loop-p-smaller c = omega arith

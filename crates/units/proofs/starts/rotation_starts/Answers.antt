@@ -1,24 +1,11 @@
 -- `units::starts::rotation_starts` meets its contract. Assumes nothing.
-use mathlib.Core.Path.{refl, sym, ◌∙◌}
+use Rattle.units.specs.Inside.{starts_under_is}
 use Rattle.units.specs.Starts.{rotation_starts, rotation_starts_is}
-use Rattle.units.proofs.Answers.{written-answered, written-refused}
-use Rattle.units.proofs.Begins.{locked-same, starts-say}
-use Rattle.paper.proofs.Rows.{said}
+use Rattle.units.proofs.Begins.{locked-same}
 use Rattle.units.proofs.starts.rotation_starts.Goals as goal
 
-pub write_starts-requires : goal.write_starts-requires
-write_starts-requires c =
-    let n = said _ c.starts_refusal-n.ensures in
-    let h = starts-say _ _ _ _ _ (sym n ∙ c.if-n-eq0.true) in
-    (h.1, h.2)
-
-pub returns-then-n-eq0 : goal.returns-then-n-eq0
-unfolding rotation_starts_is rotation_starts
-returns-then-n-eq0 c =
-    let n = said _ c.starts_refusal-n.ensures in
-    let w = c.write_starts.ensures in
-    written-answered _ _ _ _ _ _ _ n c.if-n-eq0.true w.value w.begins_after (locked-same _ _ _ _)
-
-pub returns-else-n-eq0 : goal.returns-else-n-eq0
-unfolding rotation_starts_is rotation_starts
-returns-else-n-eq0 c = written-refused _ _ _ _ _ (said _ c.starts_refusal-n.ensures) c.if-n-eq0.false refl
+pub returns : goal.returns
+unfolding rotation_starts_is rotation_starts starts_under_is
+returns c =
+    let s = c.args.s in
+    rw (← locked-same s.boundary s.value c.args.slots c.args.starts.now) c.starts_under.ensures

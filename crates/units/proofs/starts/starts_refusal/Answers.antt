@@ -7,7 +7,6 @@ use Rattle.units.proofs.starts.starts_refusal.Goals as goal
 pub returns : goal.returns
 unfolding starts_row
 returns c =
-    let b = c in
-    checked _ refl b.accepted.ensures
-    (link b.check_slots-f.ensures (link c.check_room-f.ensures (link c.check-f.ensures
+    checked _ refl c.accepted.ensures
+    (link c.check_slots-f.ensures (link c.check_room-f.ensures (link c.check-f.ensures
     (link c.check_settings-f.ensures (link c.check_order.ensures ends)))))

@@ -1,7 +1,7 @@
 -- `usable::judging::may_be_used` meets its contract. Assumes nothing.
+use Rattle.std.specs.Prelude.{Ok}
 use mathlib.Core.Path.{sym, ap, ◌∙◌}
 use Rattle.paper.proofs.Rows.{said}
-use Rattle.usable.specs.declared.Verdict.TheVariants as verdict
 use Rattle.usable.proofs.Judged.{row-asks, judged-when, refused-when}
 use Rattle.usable.proofs.judging.may_be_used.Goals as goal
 
@@ -12,9 +12,7 @@ first_broken-requires c =
 
 pub returns-then-n-eq0 : goal.returns-then-n-eq0
 returns-then-n-eq0 c =
-    c.first_broken.ensures ∙ sym (judged-when _ (sym (said _ c.usable_refusal-n.ensures) ∙ c.if-n-eq0.true))
+    ap Ok c.first_broken.ensures ∙ judged-when _ _ (said _ c.usable_refusal-n.ensures) c.if-n-eq0.true
 
 pub returns : goal.returns
-returns c =
-    let e = said _ c.usable_refusal-n.ensures in
-    ap verdict.Refused e ∙ sym (refused-when _ (λ z. c.if-n-eq0.false (e ∙ z)))
+returns c = refused-when _ _ (said _ c.usable_refusal-n.ensures) c.if-n-eq0.false

@@ -7,11 +7,9 @@ use Rattle.usable.proofs.judging.usable_refusal.Goals as goal
 pub returns : goal.returns
 unfolding usable_row
 returns c =
-    let b = c in
-    let a = b in
-    checked _ refl a.accepted.ensures
-    (link a.check_people-f.ensures (link a.check_slots-f.ensures
-    (link a.check_room-f.ensures (link a.check_words-f.ensures (link b.check-f.ensures
-    (link b.check-f-2.ensures (link b.check-f-3.ensures (link b.check-f-4.ensures
+    checked _ refl c.accepted.ensures
+    (link c.check_people-f.ensures (link c.check_slots-f.ensures
+    (link c.check_room-f.ensures (link c.check_words-f.ensures (link c.check-f.ensures
+    (link c.check-f-2.ensures (link c.check-f-3.ensures (link c.check-f-4.ensures
     (link (renamed _ 7 c.check-f-5.ensures c.figures_ok.ensures)
     (link c.check_order-f.ensures (link c.check_units.ensures ends)))))))))))

@@ -1,25 +1,20 @@
 -- `usable::rules::first_moved` meets its contract. Assumes nothing.
 use mathlib.Core.Path.{sym, ◌∙◌}
 use native.Mathlib.Omega.{arith}
-use borrow.Author.Rules.{rules}
 use Rattle.paper.proofs.Count.{all_none, all_more}
-use Rattle.owners.proofs.Scans.{scan-fails, scan-ends}
+use Rattle.usable.proofs.Walks.{fault-at, fault-ends}
 use Rattle.usable.proofs.rules.first_moved.Goals as goal
 
 pub loop-k-init : goal.loop-k-init
-loop-k-init c = (search rules, all_none _)
+loop-k-init c = all_none _
 
 pub loop-k-preserved : goal.loop-k-preserved
 loop-k-preserved c =
-    (omega arith, all_more _ _ c.loop-k.invariant.1 (sym c.is_published.ensures ∙ c.if-is_published.true))
+    all_more _ _ c.loop-k.invariant (sym c.is_published.ensures ∙ c.if-not-is_published.false)
 
-pub returns-else-is_published : goal.returns-else-is_published
-returns-else-is_published c =
-    let b = c in
-    scan-fails _ _ _ b.loop-k-test.true b.loop-k.invariant.1 (sym c.is_published.ensures ∙ c.if-is_published.false)
+pub returns-then-not-is_published : goal.returns-then-not-is_published
+returns-then-not-is_published c =
+    fault-at _ _ _ c.loop-k-test.true c.loop-k.invariant (sym c.is_published.ensures ∙ c.if-not-is_published.true)
 
 pub returns : goal.returns
-returns c = scan-ends _ _ _ c.loop-k.invariant.0 c.loop-k-test.false c.loop-k.invariant.1
-
-pub loop-k-smaller : goal.loop-k-smaller
-loop-k-smaller c = omega arith
+returns c = fault-ends _ _ _ (omega arith) c.loop-k-test.false c.loop-k.invariant

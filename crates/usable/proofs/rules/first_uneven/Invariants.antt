@@ -1,7 +1,6 @@
 -- `usable::rules::first_uneven` meets its contract. Assumes nothing.
 use mathlib.Core.Path.{◌≡◌}
 use mathlib.Core.Bool.{true}
-use Prim.Native.Nat.{◌-◌, ◌≤◌}
 use Rattle.paper.specs.Count.{all}
 use Rattle.usable.specs.Rules.{uniform_at}
 use Rattle.usable.specs.Inside.{ByUnit}
@@ -9,7 +8,4 @@ use Rattle.usable.proofs.rules.first_uneven.Given as goal
 
 abbrev pub invariant-loop-k : goal.invariant-loop-k
 invariant-loop-k l =
-    (l.k ≤ l.slots) × ByUnit l.slots l.units l.begins l.u l.k × (all l.k (uniform_at l.units l.begins l.owners) ≡ true)
-
-abbrev pub decreases-loop-k : goal.decreases-loop-k
-decreases-loop-k l = l.slots - l.k
+    ByUnit l.slots l.units l.begins l.u l.k × (all l.k (uniform_at l.units l.begins l.owners) ≡ true)

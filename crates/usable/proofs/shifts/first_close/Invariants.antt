@@ -1,7 +1,7 @@
 -- `usable::shifts::first_close` meets its contract. Assumes nothing.
 use mathlib.Core.Path.{◌≡◌}
 use mathlib.Core.Bool.{true}
-use Prim.Native.Nat.{ℕ, ◌-◌, ◌≤◌, ◌<◌}
+use Prim.Native.Nat.{ℕ, ◌<◌}
 use lib.ListN.{get_or, length}
 use Rattle.paper.specs.Count.{all}
 use Rattle.usable.specs.Rules.{rested_at}
@@ -10,8 +10,5 @@ use Rattle.usable.proofs.shifts.first_close.Given as goal
 
 abbrev pub invariant-loop-k : goal.invariant-loop-k
 invariant-loop-k l =
-    (l.k ≤ l.slots) × ((w : ℕ) → w < 256 → get_or l.free w 0 ≡ free_from l.rest l.ends l.owners l.k w)
+    ((w : ℕ) → w < 256 → get_or l.free w 0 ≡ free_from l.rest l.ends l.owners l.k w)
     × (all l.k (rested_at l.slots l.rest l.starts l.ends l.owners) ≡ true) × (length l.free ≡ 256)
-
-abbrev pub decreases-loop-k : goal.decreases-loop-k
-decreases-loop-k l = l.slots - l.k

@@ -32,12 +32,11 @@ write_draws-requires c =
 
 pub returns-then-f-eq0 : goal.returns-then-f-eq0
 returns-then-f-eq0 c =
-    let c12 = c in
-    let e = c12.way_refusal-f.ensures in
-    let z = c12.if-f-eq0.true in
+    let e = c.way_refusal-f.ensures in
+    let z = c.if-f-eq0.true in
     let A = way-asks _ _ _ _ _ _ _ _ _ _ _ e z in
-    way-written _ _ _ _ _ _ _ _ _ _ _ _ e z _ c12.first_in_way-u.ensures c12.if-u-units.false _
-    (way-fits _ _ _ _ _ _ _ _ _ _ _ A _ 1024 (omega arith) c12.unit_domains.ensures.masks_after) _ _ _ _ c.write_draws.ensures
+    way-written _ _ _ _ _ _ _ _ _ _ _ _ e z _ c.first_in_way-u.ensures c.if-u-units.false _
+    (way-fits _ _ _ _ _ _ _ _ _ _ _ A _ 1024 (omega arith) c.unit_domains.ensures.masks_after) _ _ _ _ c.write_draws.ensures
 
 pub returns : goal.returns
 returns c = way-refused _ _ _ _ _ _ _ _ _ _ _ _ c.way_refusal-f.ensures c.if-f-eq0.false
