@@ -10,7 +10,7 @@ use lib.Ieee.{binary64, of_bits}
 use lib.IntN.{pos}
 use lib.ListN.{length, get_or, replicate, length-map, length-replicate}
 use Rattle.paper.specs.Limits.{people_ok, slot_count_ok, or_else, Test, test, number_of}
-use Rattle.paper.specs.Rows.{unless, answer_refusal}
+use Rattle.paper.specs.Rows.{unless, answer_refusal, refusal_of}
 use lib.Signed.{mag}
 use lib.ListN.{take}
 use Rattle.paper.specs.Count.{all}
@@ -35,16 +35,20 @@ use Rattle.job.specs.Columns.{column, float_column}
 use Rattle.job.specs.Stages.{counted, block_start, people_of, job_counts_ok, ranges_of, capacities_of, priors_of, settings_in, instant_of}
 use Rattle.job.specs.Stages.{draws_of}
 use Rattle.job.specs.Stages.{base_total, value_of, base_of, atoms_of, avail_in, targets_in, units_in, ready_in, ready_of, all_even, all_known}
-use Rattle.job.specs.Stages.{written_of, owners_of, started_of}
-use Rattle.job.specs.Outcome.{AllPass, read_row, prepare_row, job_tests}
+use Rattle.job.specs.Stages.{written_of, uneven_of, owners_of, started_of}
+use Rattle.job.specs.Outcome.{AllPass, read_row, prepare_row, job_tests, refusal_at}
 use Rattle.job.proofs.Files.{length-column, column-at}
-use Rattle.job.proofs.Tests.{Numbered, Rising, step}
+use Rattle.job.proofs.Tests.{Numbered, Rising, step, ByNumber, refusal-by}
 use Rattle.job.proofs.Prepares.{few-says}
 use Rattle.job.proofs.Passing.{atoms-refused, AtomsSound, atoms-sound, avail-length, frozen-length, frozen-at, lent-room}
 use Rattle.job.proofs.Passing.{shares-refused}
 use Rattle.job.proofs.Passing.{units-refusal, units-right, units-fit, right-flags, first-is, owners-known, owners-even}
 use Rattle.job.proofs.Passing.{narrowed-length}
 use Rattle.job.proofs.Rotas.{RotaSound, start-number}
+use Rattle.paper.specs.Limits.{test_in}
+use Rattle.owners.specs.Entries.{placeless}
+use Rattle.paper.proofs.Rows.{worked, kept, said}
+use Rattle.paper.specs.declared.Refusal.{Refusal}
 
 -- ---- columns have the room that their counts may ask for
 
@@ -55,6 +59,12 @@ floats-room : (s : List ℕ) (at stride n m : ℕ) → m ≤ 1024 → leb m (len
 unfolding float_column
 floats-room s at stride n m h =
     le-leb m _ (omega (arith, length-map (column 8 s at stride n) (of_bits binary64), length-column 8 s at stride n))
+
+-- the refusal is the one of its number
+pub prepare-refusal : (s : List ℕ) → refusal_of (prepare_row s) ≡ refusal_at (number_of (prepare_row s)) (uneven_of s)
+unfolding prepare_row refusal_at
+prepare-refusal s =
+    refusal-by (λ n. refusal_at n (uneven_of s)) refl (prepare_row s) (refl, (refl, (refl, (refl, (refl, (refl, (refl, (refl, tt))))))))
 
 -- ---- the stages of a file, from the tests that it has passed
 
@@ -201,9 +211,9 @@ module _ (s : List ℕ) where
 
   -- 10 and 11
 
-  abbrev owner_tests : List Test
+  abbrev pub owner_tests : List Test
   owner_tests =
-      test 10 (all_even (ready_of s).slots (ready_of s).units (ready_of s).begins (written_of s))
+      test_in 10 (all_even (ready_of s).slots (ready_of s).units (ready_of s).begins (written_of s)) 3 (uneven_of s) 0
       ∷ test 11 (all_known s (block_start s 5) (counted s 5) (ready_of s).slots (ready_of s).people) ∷ []
 
   rota-sound : Few → number_of atom_tests ≡ 0 → number_of figure_tests ≡ 0 → number_of owner_tests ≡ 0
@@ -260,6 +270,95 @@ module _ (s : List ℕ) where
       (ap₂ (λ (x y : ℕ). unless x x y) T U ∙ figures-number few z)
       (λ f. step owner_tests start_tests (lit< tt, (lit< tt, tt)) o r O
       (λ e. W ∙ start-number R (draws_of s) (owners_of s) (rota-sound few z f e))))
+
+  -- ---- a refusal of a stage, where those before it refuse nothing, is that of the file
+
+  abbrev slots_number : ℕ
+  slots_number = answer_refusal (atoms_of s).answer
+
+  abbrev shares_number : ℕ
+  shares_number = (targets_in s (ready_of s).slots (ready_of s).starts (ready_of s).ends (ready_of s).avail).number
+
+  abbrev units_number : ℕ
+  units_number = answer_refusal (units_in s (ready_of s).slots (ready_of s).starts (ready_of s).ends).answer
+
+  abbrev rota_number : ℕ
+  rota_number = (started_of s).refusal.number
+
+  abbrev figures_number : ℕ
+  figures_number = unless shares_number shares_number units_number
+
+  abbrev owners_number : ℕ
+  owners_number = unless (number_of owner_tests) (number_of owner_tests) rota_number
+
+  abbrev rest_number : ℕ
+  rest_number = unless figures_number figures_number owners_number
+
+  whole : Few → unless slots_number slots_number rest_number ≡ number_of (prepare_row s)
+  whole few = prepare-number few slots_number shares_number units_number (number_of owner_tests) rota_number refl refl refl refl refl
+
+  -- of a row whose tests name no part
+  plain : (ts : List Test) → ByNumber placeless ts → ByNumber (λ k. refusal_at k (uneven_of s)) ts → (n : ℕ) → n ≡ number_of ts
+      → n ≡ number_of (prepare_row s) → placeless n ≡ refusal_of (prepare_row s)
+  unfolding refusal_at
+  plain ts b d n e k =
+      ap placeless e ∙ sym (refusal-by placeless refl ts b) ∙ refusal-by (λ (m : ℕ). refusal_at m (uneven_of s)) refl ts d
+      ∙ ap (λ (m : ℕ). refusal_at m (uneven_of s)) (sym e ∙ k) ∙ sym (prepare-refusal s)
+
+  pub slots-stop : Few → (slots_number ≡ 0 → ⊥) → placeless slots_number ≡ refusal_of (prepare_row s)
+  unfolding refusal_at
+  slots-stop few h =
+      plain atom_tests (refl, (refl, (refl, tt))) (refl, (refl, (refl, tt))) slots_number (atoms-number few)
+      (sym (kept slots_number slots_number rest_number h) ∙ whole few)
+
+  module _ (few : Few) (z : slots_number ≡ 0) where
+    after-slots : rest_number ≡ number_of (prepare_row s)
+    after-slots = sym (worked slots_number slots_number rest_number z) ∙ whole few
+
+    atoms-none : number_of atom_tests ≡ 0
+    atoms-none = sym (atoms-number few) ∙ z
+
+    pub shares-stop : (shares_number ≡ 0 → ⊥) → placeless shares_number ≡ refusal_of (prepare_row s)
+    unfolding refusal_at
+    shares-stop h =
+        let k = kept shares_number shares_number units_number h in
+        plain figure_tests (refl, (refl, tt)) (refl, (refl, tt)) shares_number (sym k ∙ figures-number few atoms-none)
+        (sym (ap (λ (f : ℕ). unless f f owners_number) k ∙ kept shares_number shares_number owners_number h) ∙ after-slots)
+
+    module _ (t : shares_number ≡ 0) where
+      units-are : figures_number ≡ units_number
+      units-are = worked shares_number shares_number units_number t
+
+      pub units-stop : (units_number ≡ 0 → ⊥) → placeless units_number ≡ refusal_of (prepare_row s)
+      unfolding refusal_at
+      units-stop h =
+          plain figure_tests (refl, (refl, tt)) (refl, (refl, tt)) units_number (sym units-are ∙ figures-number few atoms-none)
+          (sym (ap (λ (f : ℕ). unless f f owners_number) units-are ∙ kept units_number units_number owners_number h) ∙ after-slots)
+
+      module _ (u : units_number ≡ 0) where
+        figures-none : number_of figure_tests ≡ 0
+        figures-none = sym (figures-number few atoms-none) ∙ units-are ∙ u
+
+        after-figures : owners_number ≡ number_of (prepare_row s)
+        after-figures = sym (worked figures_number figures_number owners_number (units-are ∙ u)) ∙ after-slots
+
+        pub owners-stop : (f : Refusal) → f ≡ refusal_of owner_tests → (f.number ≡ 0 → ⊥) → f ≡ refusal_of (prepare_row s)
+        unfolding refusal_at
+        owners-stop f e h =
+            let n = said owner_tests e in
+            let k = sym (kept (number_of owner_tests) (number_of owner_tests) rota_number (λ v. h (n ∙ v))) ∙ after-figures in
+            e ∙ refusal-by (λ (m : ℕ). refusal_at m (uneven_of s)) refl owner_tests (refl, (refl, tt))
+            ∙ ap (λ (m : ℕ). refusal_at m (uneven_of s)) k ∙ sym (prepare-refusal s)
+
+        module _ (o : number_of owner_tests ≡ 0) where
+          pub rota-is : rota_number ≡ number_of (prepare_row s)
+          rota-is = sym (worked (number_of owner_tests) (number_of owner_tests) rota_number o) ∙ after-figures
+
+          pub rota-stop : placeless rota_number ≡ refusal_of (prepare_row s)
+          unfolding refusal_at started_of number_of
+          rota-stop =
+              plain start_tests (refl, tt) (refl, tt) rota_number
+              (start-number (ready_of s) (draws_of s) (owners_of s) (rota-sound few atoms-none figures-none o)) rota-is
 
 -- ---- a job that passes all its tests
 

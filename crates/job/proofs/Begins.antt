@@ -22,9 +22,10 @@ use Rattle.job.specs.File.{file_ok, file_most, job_layout, job_counts, job_start
 use Rattle.job.specs.Listing.{listing_most}
 use Rattle.job.specs.Stages.{counted, people_of, ready_of, owners_of, started_of, uneven_of}
 use Rattle.job.specs.Outcome.{read_row, prepare_row, job_tests, refusal_at}
-use Rattle.job.specs.Inside.{ReadOk, PreparedAs}
+use Rattle.job.specs.Inside.{ReadOk, PreparedIn}
 use Rattle.job.specs.Begun.{recorded_ok, begun_tests, recorded_tests, no_ready, no_derived, Blank, Copied, BegunIn}
 use Rattle.job.proofs.Tests.{Numbered, number_append, refusal-by, rest-number}
+use Rattle.job.proofs.Answered.{prepare-refusal}
 use Rattle.job.proofs.Readings.{read_ok}
 
 -- ---- the tests
@@ -117,24 +118,24 @@ module _ (s c b : List ℕ) (ok right room : Bool) (f : Refusal) (o : ok ≡ fil
   begun-unread y n B =
       begun-refused y f (reads_as ∙ sym (first_stops (read_tests s room) (prepare_row s) (λ z. n (said (read_tests s room) reads_as ∙ z)))) n B
 
-  module _ (z : f.number ≡ 0) (p : Prepared) (P : PreparedAs s p) where
+  module _ (z : f.number ≡ 0) where
     read_none : number_of (read_tests s room) ≡ 0
     read_none = sym (said (read_tests s room) reads_as) ∙ z
 
-    number_is : p.number ≡ number_of (begun_tests s room)
+    number_is : number_of (prepare_row s) ≡ number_of (begun_tests s room)
     unfolding begun_tests
-    number_is = P.number ∙ rest-number (read_tests s room) (prepare_row s) (read-numbered s room) read_none
+    number_is = rest-number (read_tests s room) (prepare_row s) (read-numbered s room) read_none
 
     -- refused by what stands in it
-    pub begun-unfit : (y : Begun) (h : Refusal) → (p.number ≡ 0 → ⊥) → h ≡ refusal_at p.number p.uneven → Blank h y → BegunIn s room y
-    begun-unfit y h n k B =
-        let g : h ≡ refusal_of (begun_tests s room) = k ∙ ap₂ refusal_at number_is P.uneven ∙ sym (recorded-refusal s room) in
-        begun-refused y h g (λ v. n (number_is ∙ sym (said (begun_tests s room) g) ∙ v)) B
+    pub begun-unfit : (y : Begun) (h : Refusal) → h ≡ refusal_of (prepare_row s) → (h.number ≡ 0 → ⊥) → Blank h y → BegunIn s room y
+    begun-unfit y h k n B =
+        begun-refused y h
+        (k ∙ prepare-refusal s ∙ ap (λ (m : ℕ). refusal_at m (uneven_of s)) number_is ∙ sym (recorded-refusal s room)) n B
 
     -- begun
-    pub begun-right : (y : Begun) → p.number ≡ 0 → Copied p y → BegunIn s room y
-    begun-right y n C =
-        let none : number_of (begun_tests s room) ≡ 0 = sym number_is ∙ n in
+    pub begun-right : (p : Prepared) → PreparedIn s p → (y : Begun) → Copied p y → BegunIn s room y
+    begun-right p P y C =
+        let none : number_of (begun_tests s room) ≡ 0 = sym number_is ∙ P.passes in
         let zero : y.refusal.number ≡ 0 = ap (λ (v : Refusal). v.number) C.refusal in
         record {
           refusal = C.refusal ∙ sym (recorded-refusal s room ∙ ap (λ (k : ℕ). refusal_at k (uneven_of s)) none ∙ refusal-zero (uneven_of s));

@@ -12,6 +12,7 @@ use lib.Ieee.{Float}
 use lib.IntN.{ℤ, pos}
 use lib.ListN.{length, get_or, replicate}
 use Rattle.paper.specs.Limits.{number_of}
+use Rattle.paper.specs.declared.Refusal.{Refusal}
 use Rattle.paper.proofs.Rows.{passed}
 use Rattle.paper.proofs.Logic.{by-test, both, lt-or-ge, people-says, slot-count-says}
 use Rattle.paper.specs.Rows.{unless, refusal_of, answer_refusal}
@@ -30,8 +31,6 @@ use Rattle.records.proofs.Walks.{record-says}
 use Rattle.job.specs.declared.Atoms.{Atoms}
 use Rattle.job.specs.declared.JobSlots.{JobSlots}
 use Rattle.job.specs.declared.JobUnits.{JobUnits}
-use Rattle.job.specs.declared.JobTargets.{JobTargets}
-use Rattle.job.specs.declared.JobOwners.{JobOwners}
 use Rattle.job.specs.declared.Started.{Started}
 use Rattle.job.specs.File.{job_layout, job_sizes, file_most, job_counts, job_starts, rest_ok, file_ok}
 use Rattle.job.specs.Columns.{column, float_column}
@@ -40,11 +39,15 @@ use Rattle.job.specs.Stages.{counted, block_start, people_of, column_of, ranges_
 use Rattle.job.specs.Stages.{draws_of, value_of, base_of, atoms_of, avail_in, targets_in, units_in, frozen_in, Ready, ready, ready_in, ready_of}
 use Rattle.job.specs.Stages.{placed, all_even, uneven_in, narrowed, written_of, uneven_of, owners_of, start_of, started_of}
 use Rattle.job.specs.Outcome.{read_row, prepare_row}
-use Rattle.job.specs.Inside.{ReadOk, AtomsAs, SlotsAs, UnitsAs, TargetsAs, owners_row, OwnersAs, StartedAs, PreparedAs}
+use Rattle.job.specs.Inside.{ReadOk, Refuses, AtomsIn, AtomsAs, SlotsIn, SlotsAs, UnitsIn, UnitsAs, TargetsIn, TargetsAs, owners_row, owners_tests}
+use Rattle.job.specs.Inside.{OwnersIn, OwnersAs, StartedIn, StartedAs, PreparedIn, PreparedAs}
 use Rattle.job.proofs.Files.{count_at, start-at, owners-end}
 use Rattle.job.proofs.Prepares.{few-says}
 use Rattle.job.proofs.Passing.{frozen-length}
-use Rattle.job.proofs.Answered.{prepare-number}
+use Rattle.job.proofs.Answered.{owner_tests, slots-stop, shares-stop, units-stop, owners-stop, rota-is, rota-stop}
+use Rattle.std.specs.Prelude.{Result}
+use Rattle.owners.specs.Entries.{placeless}
+use Rattle.units.specs.Answers.{Written}
 
 module _ {s c b : List ℕ} (K : ReadOk s c b) where
   count-is : (i : ℕ) → i < 7 → get_or c i 0 ≡ count_of job_layout s i
@@ -92,7 +95,7 @@ module _ {s c b : List ℕ} (K : ReadOk s c b) where
 
 -- ---- the atomic slots are not too many
 
-pub atoms-few : (B : atomic.Base) (a : Atoms) → AtomsAs (atomic.atomise_of B) a → a.count ≤ 1024
+pub atoms-few : (B : atomic.Base) (a : Atoms) → AtomsIn (atomic.atomise_of B) a → a.count ≤ 1024
 unfolding atomic.atomise_of atomic.atomise_row atomic.base_row Rattle.paper.specs.Rows.answer_as unless
 atoms-few B a w =
     by-test (eqb (number_of (atomic.atomise_row B)) 0) (a.count ≤ 1024)
@@ -102,14 +105,14 @@ atoms-few B a w =
     omega (
       arith,
       leb-true (length (atomic.starts_of_atoms B)) 1024 l,
-      w.count
+      sym (ap value_of w.answer)
           ∙ ap (λ (q : Bool). value_of (cond q (Ok (length (atomic.starts_of_atoms B)))
           (Err (number_of (atomic.atomise_row B))))) t,
     ))
     (λ f.
     omega (
       arith,
-      w.count ∙ ap (λ (q : Bool). value_of (cond q (Ok (length (atomic.starts_of_atoms B)))
+      sym (ap value_of w.answer) ∙ ap (λ (q : Bool). value_of (cond q (Ok (length (atomic.starts_of_atoms B)))
           (Err (number_of (atomic.atomise_row B))))) f,
     ))
 
@@ -151,35 +154,48 @@ module _ {s c b : List ℕ} (K : ReadOk s c b) where
 
   -- ---- the stages
 
-  pub slots-are : (st en ps os sh av : List ℕ) (a : Atoms) → st ≡ column_of s 1 0 4 → en ≡ column_of s 1 4 4 → ps ≡ column_of s 3 0 2
+  atoms-are : (st en ps os sh : List ℕ) → st ≡ column_of s 1 0 4 → en ≡ column_of s 1 4 4 → ps ≡ column_of s 3 0 2
+      → os ≡ column_of s 3 2 4 → sh ≡ column_of s 3 6 4
+      → atomic.base (get_or c 1 0) st en (get_or c 2 0) (ranges (get_or c 3 0) ps os sh) (replicate 1024 0) (replicate 1024 0) ≡ base_of s
+  unfolding base_of
+  atoms-are st en ps os sh p q r t u =
+      ap₂ (λ (n : ℕ) (Q : Ranges). atomic.base n st en (get_or c 2 0) Q (replicate 1024 0) (replicate 1024 0)) (read_count 1) (ranges-is r t u)
+      ∙ ap₂ (λ (x y : List ℕ). atomic.base (counted s 1) x y (get_or c 2 0) (ranges_of s) (replicate 1024 0) (replicate 1024 0)) p q
+      ∙ ap (λ (n : ℕ). atomic.base (counted s 1) (column_of s 1 0 4) (column_of s 1 4 4) n (ranges_of s) (replicate 1024 0)
+      (replicate 1024 0)) (read_count 2)
+
+  pub slots-refused : (st en ps os sh : List ℕ) (f : Refusal) → st ≡ column_of s 1 0 4 → en ≡ column_of s 1 4 4 → ps ≡ column_of s 3 0 2
       → os ≡ column_of s 3 2 4 → sh ≡ column_of s 3 6 4
       → AtomsAs (atomic.atomise_of (atomic.base (get_or c 1 0) st en (get_or c 2 0) (ranges (get_or c 3 0) ps os sh) (replicate 1024 0)
+      (replicate 1024 0))) (Err f)
+      → SlotsAs s (Err f)
+  unfolding atoms_of
+  slots-refused st en ps os sh f p q r t u A =
+      subst (λ (B : atomic.Base). AtomsAs (atomic.atomise_of B) (Err f)) (atoms-are st en ps os sh p q r t u) A
+
+  pub slots-are : (st en ps os sh av : List ℕ) (a : Atoms) → st ≡ column_of s 1 0 4 → en ≡ column_of s 1 4 4 → ps ≡ column_of s 3 0 2
+      → os ≡ column_of s 3 2 4 → sh ≡ column_of s 3 6 4
+      → AtomsIn (atomic.atomise_of (atomic.base (get_or c 1 0) st en (get_or c 2 0) (ranges (get_or c 3 0) ps os sh) (replicate 1024 0)
       (replicate 1024 0))) a
       → av ≡ availability_of (get_or c 2 0) a.count a.starts a.ends (ranges (get_or c 3 0) ps os sh) (replicate 512 0)
       → length av ≡ 512
-      → SlotsAs s (record { number = a.number; count = a.count; starts = a.starts; ends = a.ends; avail = av })
-  unfolding atoms_of base_of avail_in
+      → SlotsIn s (record { count = a.count; starts = a.starts; ends = a.ends; avail = av })
+  unfolding atoms_of avail_in
   slots-are st en ps os sh av a p q r t u A v l =
-      let R = ranges-is r t u in
-      let X : AtomsAs (atoms_of s) a =
-      subst (λ (B : atomic.Base). AtomsAs (atomic.atomise_of B) a)
-      (ap₂ (λ (n : ℕ) (Q : Ranges). atomic.base n st en (get_or c 2 0) Q (replicate 1024 0) (replicate 1024 0)) (read_count 1) R
-      ∙ ap₂ (λ (x y : List ℕ). atomic.base (counted s 1) x y (get_or c 2 0) (ranges_of s) (replicate 1024 0) (replicate 1024 0)) p q
-      ∙ ap (λ (n : ℕ). atomic.base (counted s 1) (column_of s 1 0 4) (column_of s 1 4 4) n (ranges_of s) (replicate 1024 0)
-      (replicate 1024 0)) (read_count 2)) A in
+      let X : AtomsIn (atoms_of s) a =
+      subst (λ (B : atomic.Base). AtomsIn (atomic.atomise_of B) a) (atoms-are st en ps os sh p q r t u) A in
       record {
-        number = X.number;
-        count = X.count;
+        answer = X.answer;
         starts = X.starts;
         ends = X.ends;
-        avail = v ∙ ap₂ (λ (n : ℕ) (Q : Ranges). availability_of n a.count a.starts a.ends Q (replicate 512 0)) (read_count 2) R;
+        avail = v ∙ ap₂ (λ (n : ℕ) (Q : Ranges). availability_of n a.count a.starts a.ends Q (replicate 512 0)) (read_count 2) (ranges-is r t u);
         few = atoms-few (base_of s) a X;
         starts-room = X.starts-room;
         ends-room = X.ends-room;
         avail-room = l;
       }
 
-  pub targets-are : (n : ℕ) (S E av : List ℕ) (cp : List Float) (pr : List ℕ) (st : Settings) (h : JobTargets) → cp ≡ capacities_of s
+  pub targets-are : (n : ℕ) (S E av : List ℕ) (cp : List Float) (pr : List ℕ) (st : Settings) (h : Result (List ℤ) Refusal) → cp ≡ capacities_of s
       → pr ≡ priors_of s → st ≡ settings_in s
       → TargetsAs (targets.compute_targets (targets.given (get_or c 2 0) n S E av cp pr st.fairness st.edition) (replicate 32 (pos
       0))) h
@@ -197,115 +213,176 @@ module _ {s c b : List ℕ} (K : ReadOk s c b) where
 
   -- ---- all that was prepared
 
-  module _ (S : JobSlots) (T : JobTargets) (U : JobUnits) (O : JobOwners) (W : Started) (st : Settings) (fz : List ℕ) (A : SlotsAs s S)
-      (B : TargetsAs (targets_in s S.count S.starts S.ends S.avail) T) (C : st ≡ settings_in s)
-      (D : UnitsAs (unit_starts_is st S.count S.starts S.ends (replicate 1024 0)) U)
-      (E : OwnersAs s (get_or b 5 0) (get_or c 5 0) S.count (get_or c 2 0) U.count U.begins O)
-      (F : StartedAs (state.from_slots (plan (get_or c 2 0) S.count S.starts S.ends) S.avail O.owners
-      (derived (replicate 512 0) (replicate 32 0) (replicate 2 0))) W)
-      (G : fz ≡ frozen_in S.count S.starts S.ends (counted s 4) (instant_of s)) where
-    abbrev got : Ready
-    got = ready (get_or c 2 0) S.count S.starts S.ends S.avail U.count U.begins fz T.targets
+  all-few : job_counts_ok (counted s 1) (people_of s) (counted s 3) (counted s 6) ≡ true
+  all-few = sym (read_as (λ (d e : List ℕ). job_counts_ok (get_or d 1 0) (get_or d 2 0) (get_or d 3 0) (get_or d 6 0))) ∙ K.few
 
-    units-are : UnitsAs (units_in s S.count S.starts S.ends) U
-    unfolding units_in
-    units-are = subst (λ (z : Settings). UnitsAs (unit_starts_is z S.count S.starts S.ends (replicate 1024 0)) U) C D
+  -- what a stage refuses, the file is refused
+  stopped : {n : ℕ} {f : Refusal} → Refuses n f → placeless n ≡ refusal_of (prepare_row s) → PreparedAs s (Err f)
+  stopped R e = (R.said ∙ e, λ z. R.some (sym (ap (λ (v : Refusal). v.number) R.said) ∙ z))
 
-    got_in : got ≡ ready_in s S.count S.starts S.ends S.avail
-    unfolding ready_in
-    got_in =
-        ap₂ (λ (p u : ℕ). ready p S.count S.starts S.ends S.avail u U.begins fz T.targets) (read_count 2)
-        units-are.count
-        ∙ ap₂ (λ (f z : List ℕ). ready (people_of s) S.count S.starts S.ends S.avail
-        (value_of (units_in s S.count S.starts S.ends).answer) f z T.targets) units-are.begins G
-        ∙ ap (λ (t : List ℤ). ready (people_of s) S.count S.starts S.ends S.avail
-        (value_of (units_in s S.count S.starts S.ends).answer) (units_in s S.count S.starts S.ends).buffer
-        (frozen_in S.count S.starts S.ends (counted s 4) (instant_of s)) t) B.targets
+  pub slots-refuse : (f : Refusal) → SlotsAs s (Err f) → PreparedAs s (Err f)
+  slots-refuse f R = stopped R (slots-stop s all-few R.some)
 
-    got-ready : got ≡ ready_of s
-    unfolding ready_of
-    got-ready =
-        got_in ∙ ap (ready_in s S.count S.starts S.ends) A.avail
-        ∙ ap₂ (λ (n : ℕ) (x : List ℕ). ready_in s n x S.ends (avail_in s n x S.ends)) A.count A.starts
-        ∙ ap (λ (y : List ℕ). ready_in s (value_of (atoms_of s).answer) (atoms_of s).starts y
+  module _ (S : JobSlots) (A : SlotsIn s S) where
+    count-of : S.count ≡ value_of (atoms_of s).answer
+    count-of = sym (ap value_of A.answer)
+
+    slots-none : answer_refusal (atoms_of s).answer ≡ 0
+    slots-none = ap answer_refusal A.answer
+
+    slots_as : {X : Type 0} (f : ℕ → List ℕ → List ℕ → List ℕ → X) → f S.count S.starts S.ends S.avail
+        ≡ f (ready_of s).slots (ready_of s).starts (ready_of s).ends (ready_of s).avail
+    unfolding ready_of ready_in
+    slots_as f =
+        ap (f S.count S.starts S.ends) A.avail
+        ∙ ap₂ (λ (n : ℕ) (x : List ℕ). f n x S.ends (avail_in s n x S.ends)) count-of A.starts
+        ∙ ap (λ (y : List ℕ). f (value_of (atoms_of s).answer) (atoms_of s).starts y
         (avail_in s (value_of (atoms_of s).answer) (atoms_of s).starts y)) A.ends
 
-    written_is : placed s (get_or b 5 0) S.count (get_or c 5 0) ≡ written_of s
-    unfolding written_of
-    written_is =
-        ap₂ (λ (i j : ℕ). placed s i S.count j) (read-start 5) (read_count 5)
-        ∙ ap (λ (R : Ready). placed s (block_start s 5) R.slots (counted s 5)) got-ready
+    shares_as : (targets_in s S.count S.starts S.ends S.avail).number
+        ≡ (targets_in s (ready_of s).slots (ready_of s).starts (ready_of s).ends (ready_of s).avail).number
+    shares_as = slots_as (λ (n : ℕ) (x y a : List ℕ). (targets_in s n x y a).number)
 
-    owners-is : O.owners ≡ owners_of s
-    unfolding owners_of
-    owners-is = E.owners ∙ ap narrowed written_is
+    units_as : (units_in s S.count S.starts S.ends) ≡ units_in s (ready_of s).slots (ready_of s).starts (ready_of s).ends
+    units_as = slots_as (λ (n : ℕ) (x y a : List ℕ). units_in s n x y)
 
-    started-is : state.from_slots (plan (get_or c 2 0) S.count S.starts S.ends) S.avail O.owners
-        (derived (replicate 512 0) (replicate 32 0) (replicate 2 0)) ≡ started_of s
-    unfolding started_of start_of
-    started-is = ap₂ (λ (R : Ready) (o : List ℕ). start_of R o) got-ready owners-is
+    pub targets-refuse : (f : Refusal) → TargetsAs (targets_in s S.count S.starts S.ends S.avail) (Err f) → PreparedAs s (Err f)
+    targets-refuse f R =
+        stopped (record { said = R.said ∙ ap placeless shares_as; some = λ z. R.some (shares_as ∙ z) })
+        (shares-stop s all-few slots-none (λ z. R.some (shares_as ∙ z)))
 
-    owners-number : O.number ≡ number_of (owners_row s (block_start s 5) (counted s 5) (ready_of s).slots (ready_of s).people
-        (all_even (ready_of s).slots (ready_of s).units (ready_of s).begins (written_of s)))
-    owners-number =
-        E.number
-        ∙ ap₂ (λ (i j : ℕ). number_of (owners_row s i j S.count (get_or c 2 0) (all_even S.count U.count U.begins
-        (placed s (get_or b 5 0) S.count (get_or c 5 0))))) (read-start 5) (read_count 5)
-        ∙ ap₂ (λ (R : Ready) (o : List ℕ). number_of (owners_row s (block_start s 5) (counted s 5) R.slots R.people
-        (all_even R.slots R.units R.begins o)))
-        got-ready written_is
+    module _ (T : List ℤ) (B : TargetsIn (targets_in s S.count S.starts S.ends S.avail) T) (st : Settings) (C : st ≡ settings_in s) where
+      shares-none : (targets_in s (ready_of s).slots (ready_of s).starts (ready_of s).ends (ready_of s).avail).number ≡ 0
+      shares-none = sym shares_as ∙ B.number
 
-    uneven-is : O.uneven ≡ uneven_of s
-    unfolding uneven_of
-    uneven-is = E.uneven ∙ ap₂ (λ (R : Ready) (o : List ℕ). uneven_in R.slots R.units R.begins o) got-ready written_is
+      written_as : unit_starts_is st S.count S.starts S.ends (replicate 1024 0) ≡ units_in s S.count S.starts S.ends
+      unfolding units_in
+      written_as = ap (λ (z : Settings). unit_starts_is z S.count S.starts S.ends (replicate 1024 0)) C
 
-    number_is : {figures rota rest no : ℕ} → figures ≡ unless T.number T.number U.number → rota ≡ unless O.number
-        O.number W.number
-        → rest ≡ unless figures figures rota → no ≡ unless S.number S.number rest → no ≡ number_of (prepare_row s)
-    unfolding owners_row
-    number_is f g h i =
-        let few = sym (read_as (λ (d e : List ℕ). job_counts_ok (get_or d 1 0) (get_or d 2 0) (get_or d 3 0) (get_or d 6 0))) ∙ K.few in
-        i ∙ ap (λ (k : ℕ). unless S.number S.number k) (h ∙ ap₂ (λ (x y : ℕ). unless x x y) f g)
-        ∙ prepare-number s few S.number T.number U.number O.number W.number A.number
-        (B.number ∙ ap (λ (R : Ready). (targets_in s R.slots R.starts R.ends R.avail).number) got-ready)
-        (units-are.number ∙ ap (λ (R : Ready). answer_refusal (units_in s R.slots R.starts R.ends).answer) got-ready)
-        owners-number (F.number ∙ ap (λ (y : state.Outcome). y.refusal.number) started-is)
+      answer_as : answer_refusal (unit_starts_is st S.count S.starts S.ends (replicate 1024 0)).answer
+          ≡ answer_refusal (units_in s (ready_of s).slots (ready_of s).starts (ready_of s).ends).answer
+      answer_as = ap (λ (w : Written). answer_refusal w.answer) (written_as ∙ units_as)
 
-    pub prepared-are : {figures rota rest no : ℕ} → figures ≡ unless T.number T.number U.number → rota ≡ unless O.number
-        O.number W.number
-        → rest ≡ unless figures figures rota → no ≡ unless S.number S.number rest
-        → PreparedAs s (record {
-          number = no;
-          uneven = O.uneven;
-          people = get_or c 2 0;
-          slots = S.count;
-          starts = S.starts;
-          ends = S.ends;
-          avail = S.avail;
-          units = U.count;
-          begins = U.begins;
-          frozen = fz;
-          targets = T.targets;
-          owners = O.owners;
-          sets = W.sets;
-          minutes = W.minutes;
-          totals = W.totals;
-        })
-    prepared-are f g h i =
-        record {
-          number = number_is f g h i;
-          uneven = uneven-is;
-          ready = got-ready;
-          owners = owners-is;
-          derived = F.derived ∙ ap (λ (y : state.Outcome). y.derived) started-is;
-          slots-few = A.few;
-          people-few = (read-few K).2;
-          starts-room = A.starts-room;
-          ends-room = A.ends-room;
-          begins-room = D.room;
-          frozen-room = ap length G ∙ frozen-length _ _ _ _ _;
-          targets-room = B.room;
-        }
+      pub units-refuse : (f : Refusal) → UnitsAs (unit_starts_is st S.count S.starts S.ends (replicate 1024 0)) (Err f)
+          → PreparedAs s (Err f)
+      units-refuse f R =
+          stopped (record { said = R.said ∙ ap placeless answer_as; some = λ z. R.some (answer_as ∙ z) })
+          (units-stop s all-few slots-none shares-none (λ z. R.some (answer_as ∙ z)))
+
+      module _ (U : JobUnits) (D : UnitsIn (unit_starts_is st S.count S.starts S.ends (replicate 1024 0)) U) where
+        units-none : answer_refusal (units_in s (ready_of s).slots (ready_of s).starts (ready_of s).ends).answer ≡ 0
+        units-none = sym answer_as ∙ ap answer_refusal D.answer
+
+        -- the units that were found, in place of those of the file
+        unit_count : U.count ≡ value_of (units_in s S.count S.starts S.ends).answer
+        unit_count = sym (ap value_of D.answer) ∙ ap (λ (w : Written). value_of w.answer) written_as
+
+        unit_begins : U.begins ≡ (units_in s S.count S.starts S.ends).buffer
+        unit_begins = D.begins ∙ ap (λ (w : Written). w.buffer) written_as
+
+        abbrev got : List ℕ → Ready
+        got fz = ready (get_or c 2 0) S.count S.starts S.ends S.avail U.count U.begins fz T
+
+        module _ (fz : List ℕ) (G : fz ≡ frozen_in S.count S.starts S.ends (counted s 4) (instant_of s)) where
+          got_in : got fz ≡ ready_in s S.count S.starts S.ends S.avail
+          unfolding ready_in
+          got_in =
+              ap₂ (λ (p u : ℕ). ready p S.count S.starts S.ends S.avail u U.begins fz T) (read_count 2) unit_count
+              ∙ ap₂ (λ (f z : List ℕ). ready (people_of s) S.count S.starts S.ends S.avail
+              (value_of (units_in s S.count S.starts S.ends).answer) f z T) unit_begins G
+              ∙ ap (λ (t : List ℤ). ready (people_of s) S.count S.starts S.ends S.avail
+              (value_of (units_in s S.count S.starts S.ends).answer) (units_in s S.count S.starts S.ends).buffer
+              (frozen_in S.count S.starts S.ends (counted s 4) (instant_of s)) t) B.targets
+
+          got-ready : got fz ≡ ready_of s
+          unfolding ready_of
+          got-ready =
+              got_in ∙ ap (ready_in s S.count S.starts S.ends) A.avail
+              ∙ ap₂ (λ (n : ℕ) (x : List ℕ). ready_in s n x S.ends (avail_in s n x S.ends)) count-of A.starts
+              ∙ ap (λ (y : List ℕ). ready_in s (value_of (atoms_of s).answer) (atoms_of s).starts y
+              (avail_in s (value_of (atoms_of s).answer) (atoms_of s).starts y)) A.ends
+
+        abbrev right : Ready
+        right = got (frozen_in S.count S.starts S.ends (counted s 4) (instant_of s))
+
+        right-is : right ≡ ready_of s
+        right-is = got-ready (frozen_in S.count S.starts S.ends (counted s 4) (instant_of s)) refl
+
+        written_is : placed s (get_or b 5 0) S.count (get_or c 5 0) ≡ written_of s
+        unfolding written_of
+        written_is =
+            ap₂ (λ (i j : ℕ). placed s i S.count j) (read-start 5) (read_count 5)
+            ∙ ap (λ (R : Ready). placed s (block_start s 5) R.slots (counted s 5)) right-is
+
+        tests_as : owners_tests s (get_or b 5 0) (get_or c 5 0) S.count (get_or c 2 0) U.count U.begins ≡ owner_tests s
+        unfolding owners_row uneven_of
+        tests_as =
+            ap₂ (λ (i j : ℕ). owners_row s i j S.count (get_or c 2 0) (all_even S.count U.count U.begins
+            (placed s (get_or b 5 0) S.count (get_or c 5 0))) (uneven_in S.count U.count U.begins
+            (placed s (get_or b 5 0) S.count (get_or c 5 0)))) (read-start 5) (read_count 5)
+            ∙ ap₂ (λ (R : Ready) (o : List ℕ). owners_row s (block_start s 5) (counted s 5) R.slots R.people
+            (all_even R.slots R.units R.begins o) (uneven_in R.slots R.units R.begins o)) right-is written_is
+
+        pub owners-refuse : (f : Refusal) → OwnersAs s (get_or b 5 0) (get_or c 5 0) S.count (get_or c 2 0) U.count U.begins (Err f)
+            → PreparedAs s (Err f)
+        owners-refuse f R =
+            (owners-stop s all-few slots-none shares-none units-none f (R.0 ∙ ap refusal_of tests_as) R.1, R.1)
+
+        module _ (O : List ℕ) (E : OwnersIn s (get_or b 5 0) (get_or c 5 0) S.count (get_or c 2 0) U.count U.begins O) where
+          owners-none : number_of (owner_tests s) ≡ 0
+          owners-none = sym (ap number_of tests_as) ∙ E.passes
+
+          owners-is : O ≡ owners_of s
+          unfolding owners_of
+          owners-is = E.owners ∙ ap narrowed written_is
+
+          started-is : state.from_slots (plan (get_or c 2 0) S.count S.starts S.ends) S.avail O
+              (derived (replicate 512 0) (replicate 32 0) (replicate 2 0)) ≡ started_of s
+          unfolding started_of start_of
+          started-is = ap₂ (λ (R : Ready) (o : List ℕ). start_of R o) right-is owners-is
+
+          rota_as : (state.from_slots (plan (get_or c 2 0) S.count S.starts S.ends) S.avail O
+              (derived (replicate 512 0) (replicate 32 0) (replicate 2 0))).refusal.number ≡ (started_of s).refusal.number
+          rota_as = ap (λ (y : state.Outcome). y.refusal.number) started-is
+
+          pub rota-refuse : (f : Refusal) → StartedAs (state.from_slots (plan (get_or c 2 0) S.count S.starts S.ends) S.avail O
+              (derived (replicate 512 0) (replicate 32 0) (replicate 2 0))) (Err f) → PreparedAs s (Err f)
+          rota-refuse f R =
+              stopped (record { said = R.said ∙ ap placeless rota_as; some = λ z. R.some (rota_as ∙ z) })
+              (rota-stop s all-few slots-none shares-none units-none owners-none)
+
+          pub prepared-are : (W : Started) (F : StartedIn (state.from_slots (plan (get_or c 2 0) S.count S.starts S.ends) S.avail O
+              (derived (replicate 512 0) (replicate 32 0) (replicate 2 0))) W) (fz : List ℕ)
+              → fz ≡ frozen_in S.count S.starts S.ends (counted s 4) (instant_of s)
+              → PreparedIn s (record {
+                people = get_or c 2 0;
+                slots = S.count;
+                starts = S.starts;
+                ends = S.ends;
+                avail = S.avail;
+                units = U.count;
+                begins = U.begins;
+                frozen = fz;
+                targets = T;
+                owners = O;
+                sets = W.sets;
+                minutes = W.minutes;
+                totals = W.totals;
+              })
+          prepared-are W F fz G =
+              record {
+                passes = sym (rota-is s all-few slots-none shares-none units-none owners-none) ∙ sym rota_as ∙ F.number;
+                ready = got-ready fz G;
+                owners = owners-is;
+                derived = F.derived ∙ ap (λ (y : state.Outcome). y.derived) started-is;
+                slots-few = A.few;
+                people-few = (read-few K).2;
+                starts-room = A.starts-room;
+                ends-room = A.ends-room;
+                begins-room = D.room;
+                frozen-room = ap length G ∙ frozen-length _ _ _ _ _;
+                targets-room = B.room;
+              }
 
 -- ---- the whole file
 

@@ -20,12 +20,13 @@ use Rattle.job.specs.declared.Prepared.{Prepared}
 use Rattle.job.specs.declared.Played.{Played}
 use Rattle.job.specs.File.{file_ok}
 use Rattle.job.specs.Listing.{Listed, listed, listing_of, listing_most}
-use Rattle.job.specs.Stages.{counted, people_of, draws_of, Ready, ready_of, owners_of, play_of, played_of, listed_of}
+use Rattle.job.specs.Stages.{counted, people_of, draws_of, Ready, ready_of, owners_of, started_of, play_of, played_of, listed_of}
 use Rattle.job.specs.Stages.{uneven_of}
 use Rattle.job.specs.Outcome.{AllPass, read_row, prepare_row, job_tests, refusal_at, Outcome, refused_as, listed_as, job_result, Ends}
-use Rattle.job.specs.Inside.{PlayedAs, ready_by, PreparedAs}
+use Rattle.job.specs.Inside.{PlayedIn, PlayedAs, ready_by, PreparedIn}
 use Rattle.job.proofs.Tests.{Numbered, number-none, refusal-by, rest-number}
-use Rattle.job.proofs.Answered.{numbered, targets-right}
+use Rattle.job.proofs.Rotas.{play-refusal}
+use Rattle.job.proofs.Answered.{numbered, prepare-refusal, targets-right, sound, free}
 
 -- ---- what is answered
 
@@ -68,21 +69,19 @@ module _ (s x : List ℕ) where
       refusal-by (λ n. refusal_at n (uneven_of s)) refl (job_tests s (length x))
       (refl, (refl, (refl, (refl, (refl, (refl, (refl, (refl, (refl, (refl, (refl, tt)))))))))))
 
-  pub prepare-refused : (f : Refusal) (n u : ℕ) → number_of read_tests ≡ 0 → n ≡ number_of (prepare_row s) → u ≡ uneven_of s → f ≡
-      refusal_at n u
-      → (n ≡ 0 → ⊥) → Ends (job_result s x) (Err f) x
+  pub prepare-refused : (f : Refusal) → number_of read_tests ≡ 0 → f ≡ refusal_of (prepare_row s) → (f.number ≡ 0 → ⊥)
+      → Ends (job_result s x) (Err f) x
   unfolding job_tests
-  prepare-refused f n u z e q p h =
-      let k : n ≡ number_of (job_tests s (length x)) = e ∙ rest-number read_tests (prepare_row s) read-numbered z in
-      let g : f ≡ refusal_of (job_tests s (length x)) = p ∙ ap₂ refusal_at k q ∙ sym job-refusal in
-      refused-is f g (λ y. h (k ∙ sym (said (job_tests s (length x)) g) ∙ y))
+  prepare-refused f z e h =
+      let k : number_of (prepare_row s) ≡ number_of (job_tests s (length x)) = rest-number read_tests (prepare_row s) read-numbered z in
+      refused-is f (e ∙ prepare-refusal s ∙ ap (λ (n : ℕ). refusal_at n (uneven_of s)) k ∙ sym job-refusal) h
 
   -- ---- the listing
 
-  module _ (p : Prepared) (z : number_of read_tests ≡ 0) (P : PreparedAs s p) (e : p.number ≡ 0) where
+  module _ (p : Prepared) (z : number_of read_tests ≡ 0) (P : PreparedIn s p) where
     none : number_of (job_tests s (length x)) ≡ 0
     unfolding job_tests
-    none = sym (rest-number _ (prepare_row s) read-numbered z) ∙ sym P.number ∙ e
+    none = sym (rest-number _ (prepare_row s) read-numbered z) ∙ P.passes
 
     pass : AllPass (job_tests s (length x))
     pass = (number-none (job_tests s (length x)) (numbered s (length x))).0 none
@@ -92,15 +91,23 @@ module _ (s x : List ℕ) where
         subst (λ (R : Ready). (k : ℕ) → k < R.people → mag (get_or R.targets k (pos 0)) < 2 ^ 63) (sym P.ready)
         (targets-right s (length x) pass).1
 
-    module _ (y : Played) (Y : PlayedAs (play_of (ready_by p) (draws_of s) p.owners (derived p.sets p.minutes p.totals)) y) where
-      played-is : play_of (ready_by p) (draws_of s) p.owners (derived p.sets p.minutes p.totals) ≡ played_of s
-      unfolding played_of
-      played-is =
-          ap₂ (λ (R : Ready) (o : List ℕ). play_of R (draws_of s) o (derived p.sets p.minutes p.totals)) P.ready P.owners
-          ∙ ap (λ (D : Derived). play_of (ready_of s) (draws_of s) (owners_of s) D) P.derived
+    played-is : play_of (ready_by p) (draws_of s) p.owners (derived p.sets p.minutes p.totals) ≡ played_of s
+    unfolding played_of
+    played-is =
+        ap₂ (λ (R : Ready) (o : List ℕ). play_of R (draws_of s) o (derived p.sets p.minutes p.totals)) P.ready P.owners
+        ∙ ap (λ (D : Derived). play_of (ready_of s) (draws_of s) (owners_of s) D) P.derived
 
-      Z : PlayedAs (played_of s) y
-      Z = subst (λ (r : state.Outcome). PlayedAs r y) played-is Y
+    -- the play is never refused
+    never-refused : (played_of s).refusal.number ≡ 0
+    unfolding played_of started_of
+    never-refused = play-refusal (ready_of s) (draws_of s) (owners_of s) (sound s (length x) pass) (free s (length x) pass)
+
+    pub play-fits : (f : Refusal) → PlayedAs (play_of (ready_by p) (draws_of s) p.owners (derived p.sets p.minutes p.totals)) (Err f) → ⊥
+    play-fits f R = R.1 (ap (λ (v : Refusal). v.number) R.0 ∙ ap (λ (r : state.Outcome). r.refusal.number) played-is ∙ never-refused)
+
+    module _ (y : Played) (Y : PlayedIn (play_of (ready_by p) (draws_of s) p.owners (derived p.sets p.minutes p.totals)) y) where
+      Z : PlayedIn (played_of s) y
+      Z = subst (λ (r : state.Outcome). PlayedIn r y) played-is Y
 
       -- what is listed, by what a play goes by and what it left
       abbrev listed_by : Ready → List ℕ → List ℕ → List ℕ → List ℕ → Listed

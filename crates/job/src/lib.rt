@@ -22,62 +22,41 @@ pub use recorded::begin;
 pub use run::{LISTING_MOST, run_job};
 pub use shown::{block_refusal, last_line, put_block};
 
-// The atomic slots, or the number of a refusal.
+// The atomic slots.
 #[derive(Clone, Copy)]
 pub struct Atoms {
-    pub number: u8,
     pub count: usize,
     pub starts: [u32; 1024],
     pub ends: [u32; 1024],
 }
 
-// The atomic slots of a job with everybody's availability, or the number of a refusal.
+// The atomic slots of a job with everybody's availability.
 #[derive(Clone, Copy)]
 pub struct JobSlots {
-    pub number: u8,
     pub count: usize,
     pub starts: [u32; 1024],
     pub ends: [u32; 1024],
     pub avail: [u64; 512],
 }
 
-// The units of a job, or the number of a refusal.
+// The units of a job.
 #[derive(Clone, Copy)]
 pub struct JobUnits {
-    pub number: u8,
     pub count: usize,
     pub begins: [u16; 1024],
 }
 
-// The targets of a job, or the number of a refusal.
-#[derive(Clone, Copy)]
-pub struct JobTargets {
-    pub number: u8,
-    pub targets: [i64; 32],
-}
-
-// The owners of a job, with the lowest unit that has two; or the number of a refusal.
-#[derive(Clone, Copy)]
-pub struct JobOwners {
-    pub number: u8,
-    pub uneven: usize,
-    pub owners: [u8; 1024],
-}
-
-// Sets, minutes and totals from the owners, or the number of a refusal.
+// Sets, minutes and totals from the owners.
 #[derive(Clone, Copy)]
 pub struct Started {
-    pub number: u8,
     pub sets: [u64; 512],
     pub minutes: [u64; 32],
     pub totals: [u64; 2],
 }
 
-// What a play goes by, and the rota before the draws; or the number of a refusal, and the lowest unit with two owners.
+// What a play goes by, and the rota before the draws.
 #[derive(Clone, Copy)]
 pub struct Prepared {
-    pub number: u8,
-    pub uneven: usize,
     pub people: usize,
     pub slots: usize,
     pub starts: [u32; 1024],
@@ -93,10 +72,9 @@ pub struct Prepared {
     pub totals: [u64; 2],
 }
 
-// What a play leaves, or the number of a refusal.
+// What a play leaves.
 #[derive(Clone, Copy)]
 pub struct Played {
-    pub number: u8,
     pub owners: [u8; 1024],
     pub minutes: [u64; 32],
     pub totals: [u64; 2],

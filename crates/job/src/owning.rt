@@ -6,7 +6,6 @@ ghost use Rattle.job.specs.File.{owner_slot};
 ghost use Rattle.job.specs.Stages.{owner_value, placed, uneven_in, record_known, all_known, narrowed};
 ghost use Rattle.job.specs.Inside.{owners_row, OwnersAs};
 
-use crate::JobOwners;
 use crate::fields::field;
 use paper::Refusal;
 
@@ -108,13 +107,21 @@ fn all_known(s: &[u8], at: usize, n: usize, slots: usize, people: usize) -> bool
     true
 }
 
-// 10, then 11; even: each unit has one owner.
-fn owners_refusal(s: &[u8], at: usize, n: usize, slots: usize, people: usize, even: bool) -> Refusal
+// 10, then 11; even: each unit has one owner, and `uneven` is the lowest that has two.
+fn owners_refusal(
+    s: &[u8],
+    at: usize,
+    n: usize,
+    slots: usize,
+    people: usize,
+    even: bool,
+    uneven: usize,
+) -> Refusal
     requires { at + n * 8 ≤ length s.now }
-    ensures { result ≡ refusal_of (owners_row s.now at n slots people even) }
+    ensures { result ≡ refusal_of (owners_row s.now at n slots people even uneven) }
 {
     let known = all_known(s, at, n, slots, people);
-    let f = paper::check(paper::accepted(), even, 10);
+    let f = paper::check_in(paper::accepted(), even, 10, 3, uneven, 0);
     paper::check(f, known, 11)
 }
 
@@ -143,17 +150,15 @@ pub(crate) fn owners_of(
     people: usize,
     units: usize,
     begins: &[u16],
-) -> JobOwners
+) -> Result<[u8; 1024], Refusal>
     requires { (at + n * 8 ≤ length s.now) × (slots ≤ 1024) }
     ensures { OwnersAs s.now at n slots people units begins.now result }
 {
     let written = placed_by(s, at, n, slots);
     let uneven = first_uneven(slots, units, begins, &written);
-    let number = owners_refusal(s, at, n, slots, people, uneven == units).number;
-    let owners = narrow(&written);
-    JobOwners {
-        number,
-        uneven,
-        owners,
+    let refusal = owners_refusal(s, at, n, slots, people, uneven == units, uneven);
+    if refusal.number != 0 {
+        return Err(refusal);
     }
+    Ok(narrow(&written))
 }

@@ -10,7 +10,9 @@ ghost use Rattle.job.specs.Stages.{settings_in, frozen_in};
 ghost use Rattle.job.specs.Inside.{AtomsAs, UnitsAs, TargetsAs};
 
 use crate::fields::field;
-use crate::{Atoms, JobTargets, JobUnits};
+use crate::run::placeless;
+use crate::{Atoms, JobUnits};
+use paper::Refusal;
 use units::Settings;
 
 // The settings.
@@ -40,7 +42,7 @@ pub(crate) fn atoms_of(
     persons: &[u16],
     opens: &[u32],
     shuts: &[u32],
-) -> Atoms
+) -> Result<Atoms, Refusal>
     ensures { AtomsAs (atomise_of (base slots starts.now ends.now people
         (ranges count persons.now opens.now shuts.now) (replicate 1024 0) (replicate 1024 0))) result }
 {
@@ -50,18 +52,12 @@ pub(crate) fn atoms_of(
         people, slots, count, starts, ends, persons, opens, shuts, &mut froms, &mut tos,
     );
     match answer {
-        Ok(n) => Atoms {
-            number: 0,
+        Ok(n) => Ok(Atoms {
             count: n,
             starts: froms,
             ends: tos,
-        },
-        Err(k) => Atoms {
-            number: k,
-            count: 0,
-            starts: froms,
-            ends: tos,
-        },
+        }),
+        Err(k) => Err(placeless(k)),
     }
 }
 
@@ -84,22 +80,19 @@ pub(crate) fn frozen_in(
 }
 
 // The units. Refusal 7.
-pub(crate) fn units_of(slots: usize, settings: Settings, starts: &[u32], ends: &[u32]) -> JobUnits
+pub(crate) fn units_of(
+    slots: usize,
+    settings: Settings,
+    starts: &[u32],
+    ends: &[u32],
+) -> Result<JobUnits, Refusal>
     ensures { UnitsAs (unit_starts_is settings slots starts.now ends.now (replicate 1024 0)) result }
 {
     let mut begins = [0u16; 1024];
     let answer = units::unit_starts(slots, settings, starts, ends, &mut begins);
     match answer {
-        Ok(n) => JobUnits {
-            number: 0,
-            count: n,
-            begins,
-        },
-        Err(k) => JobUnits {
-            number: k,
-            count: 0,
-            begins,
-        },
+        Ok(n) => Ok(JobUnits { count: n, begins }),
+        Err(k) => Err(placeless(k)),
     }
 }
 
@@ -114,7 +107,7 @@ pub(crate) fn targets_of(
     avail: &[u64],
     capacities: &[f64],
     priors: &[u32],
-) -> JobTargets
+) -> Result<[i64; 32], Refusal>
     ensures { TargetsAs (compute_targets (given people slots starts.now ends.now avail.now
         capacities.now priors.now fairness edition) (replicate 32 (pos 0))) result }
 {
@@ -122,10 +115,10 @@ pub(crate) fn targets_of(
     let number = targets::compute_targets(
         people, slots, fairness, edition, starts, ends, avail, capacities, priors, &mut out,
     );
-    JobTargets {
-        number: number,
-        targets: out,
+    if number != 0 {
+        return Err(placeless(number));
     }
+    Ok(out)
 }
 
 // Everybody's availability, a set a person.

@@ -11,7 +11,9 @@ ghost use Rattle.job.specs.Inside.{ReadOk, StartedAs, PlayedAs, ready_by};
 
 use crate::columns::column16;
 use crate::listing::put_listing;
+use crate::run::placeless;
 use crate::{Played, Prepared, Started};
+use paper::Refusal;
 
 // Sets, minutes and totals from the owners. Refusal 12.
 pub(crate) fn start_rota(
@@ -21,7 +23,7 @@ pub(crate) fn start_rota(
     ends: &[u32],
     avail: &[u64],
     owners: &[u8],
-) -> Started
+) -> Result<Started, Refusal>
     ensures { StartedAs (from_slots (plan people slots starts.now ends.now) avail.now
         owners.now (derived (replicate 512 0) (replicate 32 0) (replicate 2 0))) result }
 {
@@ -39,12 +41,14 @@ pub(crate) fn start_rota(
         &mut minutes,
         &mut totals,
     );
-    Started {
-        number,
+    if number != 0 {
+        return Err(placeless(number));
+    }
+    Ok(Started {
         sets,
         minutes,
         totals,
-    }
+    })
 }
 
 // The draws.
@@ -65,7 +69,7 @@ fn play_draws(
     sets: [u64; 512],
     minutes: [u64; 32],
     totals: [u64; 2],
-) -> Played
+) -> Result<Played, Refusal>
     ensures { PlayedAs (played (plan people slots starts.now ends.now) avail.now units
         begins.now frozen.now count draws.now firsts.now seconds.now owners
         (derived sets minutes totals) (replicate 1024 0)) result }
@@ -75,7 +79,7 @@ fn play_draws(
     let mut m = minutes;
     let mut t = totals;
     let mut answers = [0u8; 1024];
-    let number = rota::play::play(
+    let refusal = rota::play::play(
         people,
         slots,
         units,
@@ -93,19 +97,25 @@ fn play_draws(
         &mut m,
         &mut t,
         &mut answers,
-    )
-    .number;
-    Played {
-        number,
+    );
+    if refusal.number != 0 {
+        return Err(refusal);
+    }
+    Ok(Played {
         owners: o,
         minutes: m,
         totals: t,
         answers,
-    }
+    })
 }
 
 // The draws of a file, played on what was prepared from it.
-pub(crate) fn play(file: &[u8], counts: [usize; 8], blocks: [usize; 8], p: Prepared) -> Played
+pub(crate) fn play(
+    file: &[u8],
+    counts: [usize; 8],
+    blocks: [usize; 8],
+    p: Prepared,
+) -> Result<Played, Refusal>
     requires read_ok { ReadOk file.now counts blocks }
     requires begins_len { (length p.begins ≡ 1024) × (length p.frozen ≡ 16) }
     ensures { PlayedAs (play_of (ready_by p) (draws_of file.now) p.owners (derived p.sets p.minutes p.totals)) result }

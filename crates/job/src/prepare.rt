@@ -1,6 +1,5 @@
 // Preparing a job: all that a play goes by, from a file whose layout and counts are right, with refusals 3 to 12.
 ghost use Rattle.std.specs.Prelude.{◌≡◌};
-ghost use Rattle.paper.specs.Rows.{unless};
 ghost use Rattle.job.specs.Stages.{counted, instant_of, targets_in, frozen_in};
 ghost use Rattle.job.specs.Inside.{ReadOk, SlotsAs, TargetsAs, PreparedAs};
 
@@ -8,10 +7,11 @@ use crate::columns::{column_f64, column16, column32};
 use crate::owning::owners_of;
 use crate::parts::{atoms_of, avail_of, frozen_in, instant_in, settings_in, targets_of, units_of};
 use crate::play::start_rota;
-use crate::{JobSlots, JobTargets, Prepared};
+use crate::{JobSlots, Prepared};
+use paper::Refusal;
 
 // The atomic slots and everybody's availability. Refusals 3, 4 and 5.
-fn slots_in(file: &[u8], counts: [usize; 8], blocks: [usize; 8]) -> JobSlots
+fn slots_in(file: &[u8], counts: [usize; 8], blocks: [usize; 8]) -> Result<JobSlots, Refusal>
     requires { ReadOk file.now counts blocks }
     ensures { SlotsAs file.now result }
 {
@@ -25,7 +25,7 @@ fn slots_in(file: &[u8], counts: [usize; 8], blocks: [usize; 8]) -> JobSlots
     let opens = column32(file, range + 6, 14, m);
     let shuts = column32(file, range + 10, 14, m);
     let people = counts[2];
-    let atoms = atoms_of(people, n, m, &starts, &ends, &persons, &opens, &shuts);
+    let atoms = atoms_of(people, n, m, &starts, &ends, &persons, &opens, &shuts)?;
     let froms = atoms.starts;
     let tos = atoms.ends;
     let avail = avail_of(
@@ -38,13 +38,12 @@ fn slots_in(file: &[u8], counts: [usize; 8], blocks: [usize; 8]) -> JobSlots
         &opens,
         &shuts,
     );
-    JobSlots {
-        number: atoms.number,
+    Ok(JobSlots {
         count: atoms.count,
         starts: froms,
         ends: tos,
         avail,
-    }
+    })
 }
 
 // The targets of n slots. Refusals 6 and 7.
@@ -56,7 +55,7 @@ fn targets_in(
     starts: &[u32],
     ends: &[u32],
     avail: &[u64],
-) -> JobTargets
+) -> Result<[i64; 32], Refusal>
     requires { ReadOk file.now counts blocks }
     ensures { TargetsAs (targets_in file.now slots starts.now ends.now avail.now) result }
 {
@@ -96,46 +95,32 @@ fn frozen_of(
     frozen_in(slots, starts, ends, freezes, instant)
 }
 
-// The number given before, else the one given now.
-fn first_number(before: u8, next: u8) -> u8
-    ensures { result ≡ unless before before next }
-{
-    if before == 0 {
-        return next;
-    }
-    before
-}
-
 // Slots, targets, units and owners, and the rota that they make. Refusals 3 to 7 and 10 to 12.
-pub(crate) fn prepare(file: &[u8], counts: [usize; 8], blocks: [usize; 8]) -> Prepared
+pub(crate) fn prepare(
+    file: &[u8],
+    counts: [usize; 8],
+    blocks: [usize; 8],
+) -> Result<Prepared, Refusal>
     requires { ReadOk file.now counts blocks }
     ensures { PreparedAs file.now result }
 {
     let people = counts[2];
-    let s = slots_in(file, counts, blocks);
+    let s = slots_in(file, counts, blocks)?;
     let slots = s.count;
     let starts = s.starts;
     let ends = s.ends;
     let avail = s.avail;
-    let t = targets_in(file, counts, blocks, slots, &starts, &ends, &avail);
+    let targets = targets_in(file, counts, blocks, slots, &starts, &ends, &avail)?;
     let settings = settings_in(file);
-    let u = units_of(slots, settings, &starts, &ends);
+    let u = units_of(slots, settings, &starts, &ends)?;
     let begins = u.begins;
-    let o = owners_of(file, blocks[5], counts[5], slots, people, u.count, &begins);
-    let owners = o.owners;
-    let r = start_rota(people, slots, &starts, &ends, &avail, &owners);
+    let owners = owners_of(file, blocks[5], counts[5], slots, people, u.count, &begins)?;
+    let r = start_rota(people, slots, &starts, &ends, &avail, &owners)?;
     let frozen = frozen_of(file, counts, blocks, slots, &starts, &ends);
-    let targets = t.targets;
     let sets = r.sets;
     let minutes = r.minutes;
     let totals = r.totals;
-    let figures = first_number(t.number, u.number);
-    let rota = first_number(o.number, r.number);
-    let rest = first_number(figures, rota);
-    let number = first_number(s.number, rest);
-    Prepared {
-        number,
-        uneven: o.uneven,
+    Ok(Prepared {
         people,
         slots,
         starts,
@@ -149,5 +134,5 @@ pub(crate) fn prepare(file: &[u8], counts: [usize; 8], blocks: [usize; 8]) -> Pr
         sets,
         minutes,
         totals,
-    }
+    })
 }

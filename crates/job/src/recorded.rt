@@ -3,7 +3,7 @@ ghost use Rattle.job.specs.Begun.{BegunIn, Blank, Copied};
 
 use crate::file::read_file;
 use crate::prepare::prepare;
-use crate::run::{read_refusal, refusal_at};
+use crate::run::read_refusal;
 use crate::{Begun, Prepared};
 use paper::Refusal;
 
@@ -71,13 +71,11 @@ pub fn begin(file: &[u8], room: bool) -> Begun
     let blocks = w.starts;
     let right = paper::both(w.ok, counts[6] == 0);
     let refusal = read_refusal(right, counts[1], counts[2], counts[3], counts[6], room);
-    if refusal.number == 0 {
-        let p = prepare(file, counts, blocks);
-        let number = p.number;
-        if number == 0 {
-            return begun_of(p);
-        }
-        return not_begun(refusal_at(number, p.uneven));
+    if refusal.number != 0 {
+        return not_begun(refusal);
     }
-    not_begun(refusal)
+    match prepare(file, counts, blocks) {
+        Ok(p) => begun_of(p),
+        Err(f) => not_begun(f),
+    }
 }

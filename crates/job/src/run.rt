@@ -2,7 +2,8 @@
 ghost use Rattle.std.specs.Prelude.{◌≡◌};
 ghost use Rattle.paper.specs.Rows.{refusal_of};
 ghost use Rattle.job.specs.Stages.{job_counts_ok};
-ghost use Rattle.job.specs.Outcome.{Ends, read_row, refusal_at, job_result};
+ghost use Rattle.owners.specs.Entries.{placeless};
+ghost use Rattle.job.specs.Outcome.{Ends, read_row, job_result};
 
 use crate::file::read_file;
 use crate::play::{list, play};
@@ -45,18 +46,10 @@ pub(crate) fn read_refusal(
     paper::check(f, room, 2)
 }
 
-// A refusal by its number: 10 is of the lowest unit with two owners, which is part 3.
-pub(crate) fn refusal_at(number: u8, uneven: usize) -> Refusal
-    ensures { result ≡ refusal_at number uneven }
+// A refusal by its number, which names no part.
+pub(crate) fn placeless(number: u8) -> Refusal
+    ensures { result ≡ placeless number }
 {
-    if number == 10 {
-        return Refusal {
-            number: 10,
-            part: 3,
-            place: uneven,
-            second: 0,
-        };
-    }
     Refusal {
         number,
         part: 0,
@@ -77,11 +70,7 @@ pub fn run_job(file: &[u8], out: &mut [u8]) -> Result<usize, Refusal>
     if refusal.number != 0 {
         return Err(refusal);
     }
-    let p = prepare(file, counts, blocks);
-    let number = p.number;
-    if number != 0 {
-        return Err(refusal_at(number, p.uneven));
-    }
-    let y = play(file, counts, blocks, p);
+    let p = prepare(file, counts, blocks)?;
+    let y = play(file, counts, blocks, p)?;
     Ok(list(out, counts[6], p, y))
 }

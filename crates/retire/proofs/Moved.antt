@@ -73,9 +73,9 @@ rows_alike g h slots (suc p) ws e =
     ∙ ap (put_slots (h p) (16 * p) 0 slots) (rows_alike g h slots p ws (λ q k a b. e q k (omega arith) b))
 
 -- a column that was written keeps its length
-pub written-long : (l column : List ℕ) (n : ℕ) → Written l column n → length l ≤ 1024 → length column ≡ 1024
-written-long l column n W h =
-    ap length (W.entries h) ∙ length-onto l W.before (omega (arith, W.long)) ∙ W.long
+pub written-long : (l column : List ℕ) (n : ℕ) → Written l column n → length column ≡ 1024
+written-long l column n W =
+    ap length W.entries ∙ length-onto l W.before (omega (arith, W.few, W.long)) ∙ W.long
 
 -- ---- the counts
 
@@ -93,13 +93,17 @@ module _ (H : Held) (N : New) (P : PlanRight H N) where
   pub new-few : new_count H.people N ≤ 1024
   new-few = omega (arith, P.fits)
 
+  pub starts-short : length (atom_starts (is_cut H.people N.ranges) N.count N.starts N.ends) ≤ 1024
+  unfolding new_starts
+  starts-short = new-few
+
   -- ---- what is new, as it was written
 
   module _ (S E : List ℕ) (n : ℕ) (WS : Written (atom_starts (is_cut H.people N.ranges) N.count N.starts N.ends) S n)
       (WE : Written (atom_ends (is_cut H.people N.ranges) N.count N.starts N.ends) E n) where
     pub count-is : n ≡ new_count H.people N
     unfolding new_starts
-    count-is = WS.number new-few
+    count-is = WS.number
 
     ends-few : length (new_ends H.people N) ≡ new_count H.people N
     unfolding new_starts new_ends
@@ -107,29 +111,21 @@ module _ (H : Held) (N : New) (P : PlanRight H N) where
 
     pub starts-at : (k : ℕ) → k < n → get_or S k 0 ≡ entry (new_starts H.people N) k
     unfolding new_starts
-    starts-at k h = ap (λ (l : List ℕ). get_or l k 0) (WS.entries new-few) ∙ onto-at _ WS.before k (omega (arith, count-is))
+    starts-at k h = ap (λ (l : List ℕ). get_or l k 0) WS.entries ∙ onto-at _ WS.before k (omega (arith, count-is))
 
     pub ends_at : (k : ℕ) → k < n → get_or E k 0 ≡ entry (new_ends H.people N) k
     unfolding new_starts new_ends
     ends_at k h =
-        ap (λ (l : List ℕ). get_or l k 0) (WE.entries (omega (arith, ends-few, new-few)))
+        ap (λ (l : List ℕ). get_or l k 0) WE.entries
         ∙ onto-at _ WE.before k (omega (arith, count-is, ends-few))
-
-    pub starts-short : length (atom_starts (is_cut H.people N.ranges) N.count N.starts N.ends) ≤ 1024
-    unfolding new_starts
-    starts-short = new-few
-
-    pub ends-short : length (atom_ends (is_cut H.people N.ranges) N.count N.starts N.ends) ≤ 1024
-    unfolding new_ends
-    ends-short = omega (arith, ends-few, new-few)
 
     pub slots-right : slots_ok n S E ≡ true
     unfolding new_starts new_ends
     slots-right =
         let A = atom_starts (is_cut H.people N.ranges) N.count N.starts N.ends in
         let B = atom_ends (is_cut H.people N.ranges) N.count N.starts N.ends in
-        let es : S ≡ onto A WS.before = WS.entries new-few in
-        let ee : E ≡ onto B WE.before = WE.entries (omega (arith, ends-few, new-few)) in
+        let es : S ≡ onto A WS.before = WS.entries in
+        let ee : E ≡ onto B WE.before = WE.entries in
         let en : n ≡ length A = count-is in
         ap (λ (x : ℕ). slots_ok x S E) en ∙ ap₂ (λ (x y : List ℕ). slots_ok (length A) x y) es ee
         ∙ atoms-lent (is_cut H.people N.ranges) N.count N.starts N.ends WS.before WE.before P.right.base_ok
@@ -204,15 +200,15 @@ module _ (H : Held) (N : New) (P : PlanRight H N) where
         written-few = omega (arith, ap length units-new, new-units-few, new-few)
 
         pub unit-count-is : m ≡ length (new_units H.people N)
-        unit-count-is = WU.number written-few ∙ ap length units-new
+        unit-count-is = WU.number ∙ ap length units-new
 
         pub unit-at : (u : ℕ) → u < m → get_or U u 0 ≡ entry (new_units H.people N) u
         unit-at u h =
-            ap (λ (l : List ℕ). get_or l u 0) (WU.entries written-few)
-            ∙ onto-at _ WU.before u (omega (arith, WU.number written-few)) ∙ ap (λ (l : List ℕ). get_or l u 0) units-new
+            ap (λ (l : List ℕ). get_or l u 0) WU.entries
+            ∙ onto-at _ WU.before u (omega (arith, WU.number)) ∙ ap (λ (l : List ℕ). get_or l u 0) units-new
 
         pub unit-long : length U ≡ 1024
-        unit-long = written-long _ U m WU written-few
+        unit-long = written-long _ U m WU
 
         -- a new unit starts at a new slot
         pub unit-low : (u : ℕ) → u < length (new_units H.people N) → entry (new_units H.people N) u < new_count H.people N
@@ -282,8 +278,8 @@ module _ (H : Held) (N : New) (P : PlanRight H N) where
           below = omega (arith, g, gone-below H N P);
           units-few = omega (arith, units-within H.slots H.units H.lent.begins P.units-ok, P.slots-few);
           went-few = omega (arith, ew, P.rest);
-          starts-long = written-long _ S n WS (starts-short H N P S E n WS WE);
-          ends-long = written-long _ E n WE (ends-short H N P S E n WS WE);
+          starts-long = written-long _ S n WS;
+          ends-long = written-long _ E n WE;
         }
 
     module _ (U : List ℕ) (m : ℕ) (WU : Written (unit_starts N.settings n S) U m) where

@@ -1,7 +1,8 @@
 -- What is new, where it was written: slots, units and who is available. Assumes nothing.
-use Rattle.std.specs.Prelude.{Result}
-use mathlib.Core.Path.{◌≡◌, refl, sym, ap, ◌∙◌}
-use mathlib.Core.Bool.{Bool, true, false, ◌&&◌, ◌||◌, cond}
+use Rattle.std.specs.Prelude.{Result, Ok, Err, is_ok, Option, Some, None}
+use Rattle.std.specs.Result.{result_unwrap_or}
+use mathlib.Core.Path.{◌≡◌, refl, sym, ap, subst, ◌∙◌}
+use mathlib.Core.Bool.{true≢false, or-false, Bool, true, false, ◌&&◌, ◌||◌}
 use mathlib.Core.Logic.{⊎_elim}
 use mathlib.Core.List.{List, []}
 use Prim.Native.Nat.{ℕ, ◌+◌, ◌*◌, ◌≤◌, ◌<◌}
@@ -28,7 +29,8 @@ use Rattle.units.specs.declared.Settings.{Settings}
 use Rattle.units.specs.Settings.{settings_ok}
 use Rattle.units.specs.Starts.{starts_row, unit_begins, unit_starts, unit_starts_is}
 use Rattle.units.specs.Answers.{EndsAs, written_as}
-use Rattle.retire.specs.Inside.{NewRight, Written, WordsAre, number_or, is_number}
+use Rattle.retire.specs.declared.fresh.FreshSlots.{FreshSlots}
+use Rattle.retire.specs.Inside.{NewRight, Written, FreshAre, WordsAre}
 
 -- what the tests of base slots and ranges ask besides of their room
 slot-room : (n : ℕ) (starts ends : List ℕ) → slots_ok n starts ends ≡ true → slot_room_ok n starts ends ≡ true
@@ -103,7 +105,7 @@ module _ (s : Settings) (n : ℕ) (starts ends begins : List ℕ) (few : n ≤ 1
   unfolding starts_row number_of
   none_number h = simp (count_none n h)
 
-  pub units-are : (r : Result ℕ ℕ) (b : List ℕ) (m : ℕ) → EndsAs (unit_starts_is s n starts ends begins) r b → m ≡ number_or r 0
+  pub units-are : (r : Result ℕ ℕ) (b : List ℕ) (m : ℕ) → EndsAs (unit_starts_is s n starts ends begins) r b → m ≡ result_unwrap_or r 0
       → Written (unit_starts s n starts) b m
   unfolding unit_starts_is written_as answer_as
   units-are r b m E q =
@@ -112,20 +114,20 @@ module _ (s : Settings) (n : ℕ) (starts ends begins : List ℕ) (few : n ≤ 1
       let none : n ≤ 0 → (m ≡ length l) × (b ≡ onto l begins) = λ (h : n ≤ 0).
       let o : x ≡ 0 → ⊥ = λ z. omega (arith, none_number h, z) in
       let empty : length l ≡ 0 = ap length (none-starts h) in (
-        q ∙ ap (λ (y : Result ℕ ℕ). number_or y 0) (E.said ∙ kept x _ _ o) ∙ sym empty,
+        q ∙ ap (λ (y : Result ℕ ℕ). result_unwrap_or y 0) (E.said ∙ kept x _ _ o) ∙ sym empty,
         E.left ∙ kept x _ _ o ∙ onto-none begins ∙ ap (λ (y : List ℕ). onto y begins) (sym (none-starts h)),
       ) in
       let some : 0 < n → (m ≡ length l) × (b ≡ onto l begins) = λ (h : 0 < n). (
-        q ∙ ap (λ (y : Result ℕ ℕ). number_or y 0) (E.said ∙ worked x _ _ (starts-pass h)),
+        q ∙ ap (λ (y : Result ℕ ℕ). result_unwrap_or y 0) (E.said ∙ worked x _ _ (starts-pass h)),
         E.left ∙ worked x _ _ (starts-pass h),
       ) in
       let got : (m ≡ length l) × (b ≡ onto l begins) = ⊎_elim some none (lt-or-ge 0 n) in
       record {
-        full = λ h. absurd (omega (arith, starts-few));
-        number = λ _. got.0;
+        few = starts-few;
+        number = got.0;
         before = begins;
         long = room;
-        entries = λ _. got.1;
+        entries = got.1;
       }
 
 -- ---- slots
@@ -135,11 +137,11 @@ pub none_written : (l : List ℕ) (column : List ℕ) → l ≡ [] → length co
 none_written l column e room =
     let empty : length l ≡ 0 = ap length e in
     record {
-      full = λ h. absurd (omega arith);
-      number = λ _. sym empty;
+      few = omega arith;
+      number = sym empty;
       before = column;
       long = room;
-      entries = λ _. onto-none column ∙ ap (λ (y : List ℕ). onto y column) (sym e);
+      entries = onto-none column ∙ ap (λ (y : List ℕ). onto y column) (sym e);
     }
 
 pub no-starts : (cut : ℕ → Bool) (n : ℕ) (starts ends : List ℕ) → n ≡ 0 → atom_starts cut n starts ends ≡ []
@@ -175,38 +177,51 @@ module _ (people n : ℕ) (starts ends : List ℕ) (R : Ranges) (N : NewRight pe
   number-full : 1024 < length A → number_of (atomise_row B) ≡ 5
   number-full h = fits-number B fits ∙ simp (N.base_ok, N.ranges-ok, lt-leb (length A) 1024 h)
 
-  module _ (r : Result ℕ ℕ) (s e : List ℕ) (m : ℕ) (E : AtomsEnd (atomise_of B) r s e) (q : m ≡ number_or r 1025) where
-    full-then : 1024 < length A → m ≡ 1025
+  module _ (r : Result ℕ ℕ) (s e : List ℕ) (E : AtomsEnd (atomise_of B) r s e) where
+    -- refused where they are more than 1,024, and nowhere else
+    ok-full : 1024 < length A → is_ok r ≡ false
     unfolding atomise_of answer_as
-    full-then h =
-        q ∙ ap (λ (y : Result ℕ ℕ). number_or y 1025)
-        (E.said ∙ kept (number_of (atomise_row B)) _ _ (λ z. omega (arith, number-full h, z)))
+    ok-full h = ap is_ok (E.said ∙ kept (number_of (atomise_row B)) _ _ (λ z. omega (arith, number-full h, z)))
 
-    number-then : length A ≤ 1024 → m ≡ length A
+    ok-few : length A ≤ 1024 → r ≡ Ok (length A)
     unfolding atomise_of answer_as
-    number-then h = q ∙ ap (λ (y : Result ℕ ℕ). number_or y 1025) (E.said ∙ worked (number_of (atomise_row B)) _ _ (number-few h))
+    ok-few h = E.said ∙ worked (number_of (atomise_row B)) _ _ (number-few h)
 
-    pub starts-are : Written (atom_starts (is_cut people R) n starts ends) s m
-    unfolding atomise_of
-    starts-are = record {
-      full = full-then;
-      number = number-then;
-      before = a;
-      long = ra;
-      entries = λ h. E.starts ∙ worked (number_of (atomise_row B)) _ _ (number-few h);
-    }
+    pub slots-full : (k : ℕ) → r ≡ Err k → 1024 < length (atom_starts (is_cut people R) n starts ends)
+    slots-full k q =
+        ⊎_elim (λ (h : 1024 < length A). h)
+        (λ (h : length A ≤ 1024). absurd (true≢false (ap is_ok (sym (ok-few h) ∙ q)))) (lt-or-ge 1024 (length A))
 
-    pub ends-are : Written (atom_ends (is_cut people R) n starts ends) e m
-    unfolding atomise_of
-    ends-are =
-        let same = atoms-even (is_cut people R) n starts ends in
-        record {
-          full = λ h. full-then (omega (arith, same));
-          number = λ h. number-then (omega (arith, same)) ∙ (let z : length A ≡ length (atom_ends (is_cut people R) n starts ends) = omega (arith, same) in z);
-          before = b;
-          long = rb;
-          entries = λ h. E.ends ∙ worked (number_of (atomise_row B)) _ _ (number-few (omega (arith, same)));
-        }
+    module _ (m : ℕ) (q : r ≡ Ok m) where
+      few-then : length A ≤ 1024
+      few-then =
+          ⊎_elim (λ (h : 1024 < length A). absurd (true≢false (sym (ap is_ok q) ∙ ok-full h)))
+          (λ (h : length A ≤ 1024). h) (lt-or-ge 1024 (length A))
+
+      number-then : m ≡ length A
+      number-then = ap (λ (y : Result ℕ ℕ). result_unwrap_or y 0) (sym q ∙ ok-few few-then)
+
+      pub starts-are : Written (atom_starts (is_cut people R) n starts ends) s m
+      unfolding atomise_of
+      starts-are = record {
+        few = few-then;
+        number = number-then;
+        before = a;
+        long = ra;
+        entries = E.starts ∙ worked (number_of (atomise_row B)) _ _ (number-few few-then);
+      }
+
+      pub ends-are : Written (atom_ends (is_cut people R) n starts ends) e m
+      unfolding atomise_of
+      ends-are =
+          let same = atoms-even (is_cut people R) n starts ends in
+          record {
+            few = omega (arith, same, few-then);
+            number = number-then ∙ (let z : length A ≡ length (atom_ends (is_cut people R) n starts ends) = omega (arith, same) in z);
+            before = b;
+            long = rb;
+            entries = E.ends ∙ worked (number_of (atomise_row B)) _ _ (number-few few-then);
+          }
 
 -- ---- how the tests of 4 and 5 are asked
 
@@ -225,25 +240,27 @@ module _ (people : ℕ) (R : Ranges) (p s e : List ℕ) (ok : people_ok people �
 
   merge-fails : ranges_ok people R ≡ false → number_of (merged_row people R (columns p s e)) ≡ 0 → ⊥
   unfolding merged_row
-  merge-fails f z = mathlib.Core.Bool.true≢false (sym (passed (merged_row people R (columns p s e)) refl z 4) ∙ f)
+  merge-fails f z = true≢false (sym (passed (merged_row people R (columns p s e)) refl z 4) ∙ f)
 
-  pub ranges-by : (r : Result ℕ ℕ) → r ≡ (merged_ranges people R (columns p s e)).answer → is_number r ≡ ranges_ok people R
+  pub ranges-by : (r : Result ℕ ℕ) → r ≡ (merged_ranges people R (columns p s e)).answer → is_ok r ≡ ranges_ok people R
   unfolding merged_ranges answer_as
   ranges-by r q =
       by-test (ranges_ok people R) _
-      (λ t. ap is_number (q ∙ worked (number_of (merged_row people R (columns p s e))) _ _ (merge-passes t)) ∙ sym t)
-      (λ f. ap is_number (q ∙ kept (number_of (merged_row people R (columns p s e))) _ _ (merge-fails f)) ∙ sym f)
+      (λ t. ap is_ok (q ∙ worked (number_of (merged_row people R (columns p s e))) _ _ (merge-passes t)) ∙ sym t)
+      (λ f. ap is_ok (q ∙ kept (number_of (merged_row people R (columns p s e))) _ _ (merge-fails f)) ∙ sym f)
 
--- a count that was written is 1,025 at most
-pub count_most : (l column : List ℕ) (n : ℕ) → Written l column n → n ≤ 1025
-count_most l column n W =
-    ⊎_elim (λ (h : 1024 < length l). omega (arith, W.full h)) (λ (h : length l ≤ 1024). omega (arith, W.number h)) (lt-or-ge 1024 (length l))
+-- what is new, by the answer
+pub fresh_some : (A B : List ℕ) (r : Option FreshSlots) (f : FreshSlots) → FreshAre A B r → r ≡ Some f → Written A f.starts f.count × Written B f.ends f.count
+fresh_some A B r f W e = subst (FreshAre A B) e W
 
--- and fits beside others exactly where the list does
+pub fresh_none : (A B : List ℕ) (r : Option FreshSlots) → FreshAre A B r → r ≡ None → 1024 < length A
+fresh_none A B r W e = subst (FreshAre A B) e W
+
+-- new slots fit beside others exactly where their count does; more than 1,024 never do
 pub fits_by : (fault kept : ℕ) (l column : List ℕ) (n : ℕ) → Written l column n
     → (eqb fault 9 || leb (kept + n) 1024) ≡ (eqb fault 9 || leb (kept + length l) 1024)
-fits_by fault kept l column n W =
-    ⊎_elim
-    (λ (h : 1024 < length l).
-    ap (λ (b : Bool). eqb fault 9 || b) (lt-leb (kept + n) 1024 (omega (arith, W.full h)) ∙ sym (lt-leb (kept + length l) 1024 (omega arith))))
-    (λ (h : length l ≤ 1024). ap (λ (x : ℕ). eqb fault 9 || leb (kept + x) 1024) (W.number h)) (lt-or-ge 1024 (length l))
+fits_by fault kept l column n W = ap (λ (x : ℕ). eqb fault 9 || leb (kept + x) 1024) W.number
+
+pub fits_never : (fault kept : ℕ) (l : List ℕ) → 1024 < length l → eqb fault 9 ≡ (eqb fault 9 || leb (kept + length l) 1024)
+fits_never fault kept l h =
+    sym (or-false (eqb fault 9)) ∙ ap (λ (b : Bool). eqb fault 9 || b) (sym (lt-leb (kept + length l) 1024 (omega arith)))

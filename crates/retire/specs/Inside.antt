@@ -1,5 +1,5 @@
 -- What private functions of retire alone cite. Assumes nothing.
-use Rattle.std.specs.Prelude.{◌≡◌, Bool, true, false, ◌⊎◌, List, [], ℕ, ◌-◌, ◌*◌, ◌≤◌, ◌<◌, length, Result, Ok, Err}
+use Rattle.std.specs.Prelude.{◌≡◌, true, ◌⊎◌, List, [], ℕ, ◌-◌, ◌*◌, ◌≤◌, ◌<◌, length, Option, Some, None}
 use Rattle.paper.specs.Limits.{people_ok, ranges_most}
 use Rattle.paper.specs.Count.{onto}
 use Rattle.slotset.specs.Slots.{slot}
@@ -9,6 +9,7 @@ use Rattle.slots.specs.Availability.{available_bit}
 use Rattle.units.specs.Settings.{settings_ok}
 use Rattle.units.specs.Units.{units_ok}
 use Rattle.owners.specs.Derived.{derived}
+use Rattle.retire.specs.declared.fresh.FreshSlots.{FreshSlots}
 use Rattle.retire.specs.Rolled.{entry}
 use Rattle.retire.specs.New.{New}
 use Rattle.retire.specs.Outcome.{Held, held, columns, units_gone, slots_then, units_then, starts_then, ends_then, avail_then, begins_then}
@@ -22,27 +23,23 @@ pub record NewRight (people base : ℕ) (starts ends : List ℕ) (R : Ranges) : 
   pub base_ok : slots_ok base starts ends ≡ true
   pub ranges-ok : ranges_ok people R ≡ true
 
--- a list of at most 1,024 entries at the front of a column of 1,024, with its count; 1,025 where it is longer
+-- a list of at most 1,024 entries at the front of a column of 1,024, with its count
 pub record Written (l column : List ℕ) (count : ℕ) : Type 0 where
-  pub full : 1024 < length l → count ≡ 1025
-  pub number : length l ≤ 1024 → count ≡ length l
+  pub few : length l ≤ 1024
+  pub number : count ≡ length l
   pub before : List ℕ
   pub long : length before ≡ 1024
-  pub entries : length l ≤ 1024 → column ≡ onto l before
+  pub entries : column ≡ onto l before
+
+-- starts and ends of new slots at the front of two columns; None where they are more than 1,024
+abbrev pub FreshAre : List ℕ → List ℕ → Option FreshSlots → Type 0
+FreshAre starts ends (Some f) = Written starts f.starts f.count × Written ends f.ends f.count
+FreshAre starts ends None = 1024 < length starts
 
 -- slots of everybody's sets in 512 words: who is available for the first n slots
 abbrev pub WordsAre : ℕ → ℕ → Ranges → List ℕ → List ℕ → List ℕ → Type 0
 WordsAre people n R starts ends ws =
     (p k : ℕ) → p < people → k < n → slot ws (16 * p) k ≡ available_bit R starts ends p k
-
--- a number that was asked for, or another where it was refused
-abbrev pub number_or : Result ℕ ℕ → ℕ → ℕ
-number_or (Ok n) other = n
-number_or (Err m) other = other
-
-abbrev pub is_number : Result ℕ ℕ → Bool
-is_number (Ok n) = true
-is_number (Err m) = false
 
 -- ---- the part of a rota that moves before its owners do
 

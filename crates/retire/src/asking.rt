@@ -111,14 +111,6 @@ fn check_ranges(
     paper::check(before, ranges_ok(people, count, persons, opens, shuts), 4)
 }
 
-// Whether 1,024 slots have room for what is left and what is new.
-fn fits(fault: u8, kept: usize, fresh: usize) -> bool
-    requires { (kept ≤ 1024) × (fresh ≤ 1025) }
-    ensures { result ≡ eqb fault 9 || leb (kept + fresh) 1024 }
-{
-    fault == 9 || kept + fresh <= paper::SLOTS_MOST
-}
-
 // Rule 5: more than 1,024 slots would result, where slots and units are sound. Nothing is split where a test failed before.
 fn check_fits(
     before: Refusal,
@@ -139,8 +131,11 @@ fn check_fits(
     if before.number != 0 {
         return before;
     }
-    let fresh = fresh_slots(people, base, count, froms, tos, persons, opens, shuts);
-    paper::check(before, fits(fault, kept, fresh.count), 5)
+    let Some(fresh) = fresh_slots(people, base, count, froms, tos, persons, opens, shuts) else {
+        return paper::check(before, fault == 9, 5);
+    };
+    let fits = kept + fresh.count <= paper::SLOTS_MOST;
+    paper::check(before, (fault == 9) | fits, 5)
 }
 
 // Whether prior minutes and the retired total stay within 100,000,000, where the rota is whole.

@@ -6,11 +6,11 @@ ghost use Rattle.slots.specs.Ranges.{ranges, range_room_ok, ranges_ok};
 ghost use Rattle.slots.specs.Atomic.{is_cut, atom_starts, atom_ends};
 ghost use Rattle.units.specs.Settings.{settings_ok};
 ghost use Rattle.units.specs.Starts.{unit_starts};
-ghost use Rattle.retire.specs.Inside.{NewRight, Written, WordsAre, number_or, is_number};
+ghost use Rattle.retire.specs.Inside.{NewRight, Written, FreshAre, WordsAre};
 
 use units::Settings;
 
-// New slots: the first `count` of both columns, or 1,025 where they are too many.
+// New slots: the first `count` of both columns.
 #[derive(Clone, Copy)]
 pub struct FreshSlots {
     pub starts: [u32; 1024],
@@ -30,23 +30,6 @@ fn blank<T: Copy, const N: usize>(zero: T) -> [T; N] {
     [zero; N]
 }
 
-// A number that was asked for, or another where it was refused.
-fn number_or(answer: Result<usize, u8>, other: usize) -> usize
-    ensures { result ≡ number_or answer other }
-{
-    match answer {
-        Ok(n) => n,
-        Err(_) => other,
-    }
-}
-
-// Whether an answer is a number.
-fn is_number(answer: Result<usize, u8>) -> bool
-    ensures { result ≡ is_number answer }
-{
-    matches!(answer, Ok(_))
-}
-
 // Whether ranges pass rule 4: merging them refuses nothing else.
 pub(crate) fn ranges_ok(
     people: usize,
@@ -62,7 +45,7 @@ pub(crate) fn ranges_ok(
     let mut whose: [u16; 1024] = blank(0);
     let mut starts: [u32; 1024] = blank(0);
     let mut ends: [u32; 1024] = blank(0);
-    is_number(slots::merged_ranges(
+    slots::merged_ranges(
         people,
         count,
         persons,
@@ -71,10 +54,11 @@ pub(crate) fn ranges_ok(
         &mut whose,
         &mut starts,
         &mut ends,
-    ))
+    )
+    .is_ok()
 }
 
-// The base slots split at every start and end of a merged range that lies strictly inside one; there may be none.
+// The base slots split at every start and end of a merged range that lies strictly inside one; there may be none. None where they are more than 1,024.
 pub(crate) fn fresh_slots(
     people: usize,
     base: usize,
@@ -84,23 +68,21 @@ pub(crate) fn fresh_slots(
     persons: &[u16],
     opens: &[u32],
     shuts: &[u32],
-) -> FreshSlots
+) -> Option<FreshSlots>
     requires { NewRight people base froms.now tos.now (ranges count persons.now opens.now shuts.now) }
-    ensures { Written (atom_starts (is_cut people (ranges count persons.now opens.now shuts.now)) base
-        froms.now tos.now) result.starts result.count
-        × Written (atom_ends (is_cut people (ranges count persons.now opens.now shuts.now)) base
-        froms.now tos.now) result.ends result.count }
+    ensures { FreshAre (atom_starts (is_cut people (ranges count persons.now opens.now shuts.now)) base froms.now tos.now)
+        (atom_ends (is_cut people (ranges count persons.now opens.now shuts.now)) base froms.now tos.now) result }
 {
     let mut starts: [u32; 1024] = blank(0);
     let mut ends: [u32; 1024] = blank(0);
     if base == 0 {
-        return FreshSlots {
+        return Some(FreshSlots {
             starts,
             ends,
             count: 0,
-        };
+        });
     }
-    let answer = slots::atomise(
+    let Ok(count) = slots::atomise(
         people,
         base,
         count,
@@ -111,12 +93,14 @@ pub(crate) fn fresh_slots(
         shuts,
         &mut starts,
         &mut ends,
-    );
-    FreshSlots {
+    ) else {
+        return None;
+    };
+    Some(FreshSlots {
         starts,
         ends,
-        count: number_or(answer, 1025),
-    }
+        count,
+    })
 }
 
 // Where the units of n new slots start, the first of these as slot 0.
@@ -125,11 +109,8 @@ pub(crate) fn fresh_units(n: usize, settings: Settings, starts: &[u32], ends: &[
     ensures { Written (unit_starts settings n starts.now) result.begins result.count }
 {
     let mut begins: [u16; 1024] = blank(0);
-    let answer = units::unit_starts(n, settings, starts, ends, &mut begins);
-    FreshUnits {
-        begins,
-        count: number_or(answer, 0),
-    }
+    let count = units::unit_starts(n, settings, starts, ends, &mut begins).unwrap_or(0);
+    FreshUnits { begins, count }
 }
 
 // Who is available for n new slots, a set a person.

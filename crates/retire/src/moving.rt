@@ -60,7 +60,10 @@ pub(crate) fn move_plan(
     let gone = start_from(slots, units, begins, went);
     let kept = slots - gone;
     let left = units - went;
-    let fresh = fresh_slots(people, base, count, froms, tos, persons, opens, shuts);
+    // They were judged to fit.
+    let Some(fresh) = fresh_slots(people, base, count, froms, tos, persons, opens, shuts) else {
+        return Counts { slots, units };
+    };
     let n = fresh.count;
     let words = fresh_words(
         people,

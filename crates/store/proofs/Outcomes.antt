@@ -1,7 +1,8 @@
 -- Laws of the tests and of the outcomes, by their numbers. Assumes nothing.
-use Rattle.std.specs.Prelude.{Result, Ok, Err}
+use Rattle.std.specs.Prelude.{Result, Ok, Err, is_ok}
+use Rattle.std.specs.Result.{result_unwrap_or}
 use mathlib.Core.Path.{◌≡◌, refl, sym, ap, ap₂, ◌∙◌}
-use mathlib.Core.Bool.{Bool, true, false, ◌&&◌, ◌||◌}
+use mathlib.Core.Bool.{Bool, true, false, ◌&&◌, ◌||◌, cond, true≢false}
 use mathlib.Core.List.{List}
 use Prim.Native.Nat.{ℕ, ◌+◌, ◌≤◌, ◌<◌}
 use native.Mathlib.Omega.{arith}
@@ -9,10 +10,11 @@ use borrow.Author.Tests.{le-leb, lt-leb, leb-true, lt-ltb, le-ltb, ltb-true}
 use lib.Dec.{leb, ltb, eqb}
 use lib.ListN.{length, take}
 use Rattle.paper.specs.Limits.{number_of}
-use Rattle.paper.specs.Rows.{refusal_of, answer_as}
+use Rattle.paper.specs.Rows.{refusal_of, answer_as, answer_refusal}
 use Rattle.paper.specs.declared.Refusal.{Refusal}
 use Rattle.paper.proofs.Logic.{both, or_left, and-stops}
 use Rattle.paper.proofs.Rows.{worked, kept, said, passed}
+use Rattle.slotset.proofs.Refusals.{answer-is, answer-refused}
 use Rattle.records.specs.Heads.{place_of}
 use Rattle.records.specs.Writes.{written, with_record}
 use Rattle.records.proofs.Writes.{record-written}
@@ -24,7 +26,7 @@ use Rattle.store.specs.declared.Saved.{Saved}
 use Rattle.store.specs.Layout.{count_up_to, count_in, is_store}
 use Rattle.store.specs.Figures.{kept_in, body_of}
 use Rattle.store.specs.Outcome.{layout_ok, room_ok, store_tests, save_tests, ask_tests, store_row, save_row, ask_row}
-use Rattle.store.specs.Outcome.{answer_of, ask_is, save_is, SavesAs}
+use Rattle.store.specs.Outcome.{answer_of, count_is, ask_is, save_is, SavesAs}
 
 -- ---- the tests
 
@@ -68,10 +70,44 @@ room_says count used len t =
 
 -- ---- the numbers that code comes to
 
+-- a layout that is kept, or not, and the answer
+module _ (area : List ℕ) (used : ℕ) where
+  abbrev pub LaidCount : Result ℕ ℕ
+  LaidCount = cond (layout_ok area used) (Ok (count_in (take used area))) (Err 13)
+
+  pub laid-kept : (count : ℕ) → layout_ok area used ≡ true → count ≡ count_in (take used area) → Ok count ≡ LaidCount
+  laid-kept count t q = ap Ok q ∙ sym (ap (λ (b : Bool). cond b (Ok (count_in (take used area))) (Err 13)) t)
+
+  pub laid-not : layout_ok area used ≡ false → Err 13 ≡ LaidCount
+  laid-not f = sym (ap (λ (b : Bool). cond b (Ok (count_in (take used area))) (Err 13)) f)
+
+pub laid_ok : (ok : Bool) (count n : ℕ) {r : Result ℕ ℕ} → r ≡ cond ok (Ok count) (Err 13) → r ≡ Ok n → (true ≡ ok) × (n ≡ count)
+laid_ok true count n e q = (refl, ap (λ (y : Result ℕ ℕ). result_unwrap_or y 0) (sym q ∙ e))
+laid_ok false count n e q = absurd (true≢false (ap is_ok (sym q ∙ e)))
+
+pub laid_err : (ok : Bool) (count n : ℕ) {r : Result ℕ ℕ} → r ≡ cond ok (Ok count) (Err 13) → r ≡ Err n → (ok ≡ false) × (13 ≡ n)
+laid_err true count n e q = absurd (true≢false (ap is_ok (sym e ∙ q)))
+laid_err false count n e q = (refl, ap answer_refusal (sym e ∙ q))
+
+-- 13 before all else
+module _ (area : List ℕ) (used : ℕ) (f : layout_ok area used ≡ false) where
+  pub store-unlaid : number_of (store_row area used) ≡ 13
+  unfolding store_row number_of
+  store-unlaid = ap (λ (b : Bool). number_of (store_tests b (leb used (length area)))) f
+
+  pub save-unlaid : (s : Settings) → number_of (save_row area used s) ≡ 13
+  unfolding save_row number_of
+  save-unlaid s =
+      ap (λ (b : Bool). number_of (save_tests b (leb used (length area)) (room_ok (count_in (take used area)) used (length area)) (settings_ok s))) f
+
+  pub ask-unlaid : (n : ℕ) → number_of (ask_row area used n) ≡ 13
+  unfolding ask_row number_of
+  ask-unlaid n = ap (λ (b : Bool). number_of (ask_tests b (leb used (length area)) (kept_in (take used area) n))) f
+
 module _ (area : List ℕ) (used : ℕ) (ok : Bool) (e : ok ≡ layout_ok area used) where
-  pub store-number : {f : Refusal} → f ≡ refusal_of (store_tests ok (leb used (length area))) → f.number ≡ number_of (store_row area used)
+  pub store-number : number_of (store_tests ok (leb used (length area))) ≡ number_of (store_row area used)
   unfolding store_row
-  store-number q = said _ q ∙ ap (λ (b : Bool). number_of (store_tests b (leb used (length area)))) e
+  store-number = ap (λ (b : Bool). number_of (store_tests b (leb used (length area)))) e
 
   pub ask-number : {f : Refusal} (n : ℕ) (k : Kept) → k ≡ kept_in (take used area) n
       → f ≡ refusal_of (ask_tests ok (leb used (length area)) k) → f.number ≡ number_of (ask_row area used n)
@@ -86,6 +122,22 @@ module _ (area : List ℕ) (used : ℕ) (ok : Bool) (e : ok ≡ layout_ok area u
       said _ q
       ∙ ap₂ (λ (a b : Bool). number_of (save_tests a (leb used (length area)) b (settings_ok s))) e
       (r ∙ ap (λ (n : ℕ). room_ok n used (length area)) c)
+
+-- the count, where the layout is kept
+module _ (area : List ℕ) (used count : ℕ) (t : true ≡ layout_ok area used) where
+  pub count-held : used ≤ length area → count ≡ count_in (take used area) → Ok count ≡ count_is area used
+  unfolding count_is number_of
+  count-held h q =
+      answer-is 0 _ (ap (λ (b : Bool). number_of (store_tests true b)) (sym (le-leb used (length area) h)) ∙ store-number area used true t) refl _ _ q
+
+  pub count-short : length area < used → Err 2 ≡ count_is area used
+  unfolding count_is number_of
+  count-short h =
+      answer-refused 2 _ (ap (λ (b : Bool). number_of (store_tests true b)) (sym (lt-leb used (length area) h)) ∙ store-number area used true t) (λ z. omega (arith, z)) _
+
+pub count-unlaid : (area : List ℕ) (used : ℕ) → layout_ok area used ≡ false → Err 13 ≡ count_is area used
+unfolding count_is
+count-unlaid area used f = answer-refused 13 _ (sym (store-unlaid area used f)) (λ z. omega (arith, z)) _
 
 -- where nothing stands against saving
 pub save-passed : (area : List ℕ) (used : ℕ) (s : Settings) → number_of (save_row area used s) ≡ 0

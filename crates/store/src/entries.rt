@@ -1,9 +1,9 @@
 // Saving settings, asking for them by number, and counting the records.
-ghost use Rattle.std.specs.Prelude.{◌≡◌, leb, length, take};
+ghost use Rattle.std.specs.Prelude.{◌≡◌, true, cond, leb, length, take, Ok, Err};
 ghost use Rattle.paper.specs.Rows.{refusal_of};
 ghost use Rattle.units.specs.Settings.{settings_ok};
 ghost use Rattle.store.specs.Layout.{count_in};
-ghost use Rattle.store.specs.Outcome.{layout_ok, room_ok, store_tests, save_tests, ask_tests};
+ghost use Rattle.store.specs.Outcome.{layout_ok, room_ok, save_tests, ask_tests};
 ghost use Rattle.store.specs.Outcome.{figures_ok, known_ok, answer_of, count_is, save_is, ask_is, SavesAs};
 
 use crate::figures::{body_of, kept_in};
@@ -12,29 +12,16 @@ use crate::{Asked, Kept, RECORDS_MOST, Saved};
 use paper::Refusal;
 use units::Settings;
 
-// Whether the layout of the used bytes is kept, and how many right records they open with.
-#[derive(Clone, Copy)]
-struct Laid {
-    ok: bool,
-    count: usize,
-}
-
-// The walk over the used bytes. A layout of which bytes are missing isn't judged.
-fn judge_layout(area: &[u8], used: usize) -> Laid
-    ensures { (result.ok ≡ layout_ok area.now used) × (result.count ≡ count_in (take used area.now)) }
+// How many right records the used bytes open with; 13 where their layout isn't kept. A layout of which bytes are missing isn't judged.
+fn laid_count(area: &[u8], used: usize) -> Result<usize, u8>
+    ensures { result ≡ cond (layout_ok area.now used) (Ok (count_in (take used area.now))) (Err 13) }
 {
     let s = used_part(area, used);
     let w = walk(s, RECORDS_MOST);
-    if area.len() < used {
-        return Laid {
-            ok: true,
-            count: w.count,
-        };
+    if area.len() < used || w.end == s.len() {
+        return Ok(w.count);
     }
-    Laid {
-        ok: w.end == s.len(),
-        count: w.count,
-    }
+    Err(13)
 }
 
 // Whether there is room for a record of settings more.
@@ -83,28 +70,20 @@ fn answer_of(kept: Kept) -> Result<Asked, u8>
     }
 }
 
-// What stands against every question: 13, 2.
-fn store_refusal(laid: bool, held: bool) -> Refusal
-    ensures { result ≡ refusal_of (store_tests laid held) }
+// What stands against saving where the layout is kept: 2, 5, 7.
+fn save_refusal(held: bool, room: bool, s: Settings) -> Refusal
+    ensures { result ≡ refusal_of (save_tests true held room (settings_ok s)) }
 {
-    let f = paper::check(paper::accepted(), laid, 13);
-    paper::check(f, held, 2)
-}
-
-// What stands against saving: 13, 2, 5, 7.
-fn save_refusal(laid: bool, held: bool, room: bool, s: Settings) -> Refusal
-    ensures { result ≡ refusal_of (save_tests laid held room (settings_ok s)) }
-{
-    let f = store_refusal(laid, held);
+    let f = paper::check(paper::accepted(), held, 2);
     let f = paper::check(f, room, 5);
     paper::check(f, units::settings_ok(s), 7)
 }
 
-// What stands against asking for a record: 13, 2, 7, 11.
-fn ask_refusal(laid: bool, held: bool, kept: Kept) -> Refusal
-    ensures { result ≡ refusal_of (ask_tests laid held kept) }
+// What stands against asking for a record where the layout is kept: 2, 7, 11.
+fn ask_refusal(held: bool, kept: Kept) -> Refusal
+    ensures { result ≡ refusal_of (ask_tests true held kept) }
 {
-    let f = store_refusal(laid, held);
+    let f = paper::check(paper::accepted(), held, 2);
     let f = paper::check(f, figures_ok(kept), 7);
     paper::check(f, known_ok(kept), 11)
 }
@@ -113,23 +92,26 @@ fn ask_refusal(laid: bool, held: bool, kept: Kept) -> Refusal
 pub fn count(area: &[u8], used: usize) -> Result<usize, u8>
     ensures { result ≡ count_is area.now used }
 {
-    let l = judge_layout(area, used);
-    let n = store_refusal(l.ok, used <= area.len()).number;
-    if n == 0 { Ok(l.count) } else { Err(n) }
+    let count = laid_count(area, used)?;
+    if used <= area.len() {
+        Ok(count)
+    } else {
+        Err(2)
+    }
 }
 
 // Settings as one record more, written at the used length. Refusals 13, 2, 5, 7.
 pub fn save(area: &mut [u8], used: usize, settings: Settings) -> Result<Saved, u8>
     ensures { SavesAs (save_is area.old used settings) result area.new }
 {
-    let l = judge_layout(area, used);
-    let room = room_ok(area, used, l.count);
-    let n = save_refusal(l.ok, used <= area.len(), room, settings).number;
+    let count = laid_count(area, used)?;
+    let room = room_ok(area, used, count);
+    let n = save_refusal(used <= area.len(), room, settings).number;
     if n == 0 {
         let body = body_of(settings);
         records::put_record(area, used, 33, &body);
         Ok(Saved {
-            number: (l.count + 1) as u64,
+            number: (count + 1) as u64,
             used: (used + 12) as u64,
         })
     } else {
@@ -141,8 +123,8 @@ pub fn save(area: &mut [u8], used: usize, settings: Settings) -> Result<Saved, u
 pub fn ask(area: &[u8], used: usize, number: usize) -> Result<Asked, u8>
     ensures { result ≡ ask_is area.now used number }
 {
-    let l = judge_layout(area, used);
-    let kept = kept_in(area, used, l.count, number);
-    let n = ask_refusal(l.ok, used <= area.len(), kept).number;
+    let count = laid_count(area, used)?;
+    let kept = kept_in(area, used, count, number);
+    let n = ask_refusal(used <= area.len(), kept).number;
     if n == 0 { answer_of(kept) } else { Err(n) }
 }

@@ -1,13 +1,13 @@
 // Reading stored answers: the numbers of a record, low byte first, and the tally of what was compared. The programs `stored_*` use it.
 #![tactic(auto)]
 
-ghost use Rattle.std.specs.Prelude.{◌≡◌, ◌+◌, ◌<◌, ◌≤◌, min, true, false, if◌then◌else◌, nat_eq, length, slice_index, take};
+ghost use Rattle.std.specs.Prelude.{◌≡◌, ◌+◌, ◌<◌, ◌≤◌, ◌==◌, ◌&&◌, min, true, false, if◌then◌else◌, nat_eq, length, slice_index, take};
 ghost use Rattle.std.specs.Io.{ReadsAtMost};
-ghost use Rattle.stored.specs.Numbers.{further, little_at, four_after};
+ghost use Rattle.stored.specs.Numbers.{further, little_at, four_after, above, above_yes};
 ghost use Rattle.stored.specs.Columns.{filled, bytes_filled, row_word, rows_filled, same, front};
 
 use std::io;
-use std::io::Read;
+use std::io::{Print, Read};
 
 // How many answers were compared, and how many differ.
 #[derive(Clone, Copy)]
@@ -79,6 +79,127 @@ pub fn read_full<R: Read>(from: &mut R, buf: &mut [u8]) -> io::Result<usize>
         done += n;
     }
     Ok(done)
+}
+
+// The turn of a record of which `got` bytes came: its answers where it came whole, else the last.
+fn one_turn<F: Fn(Tally, &[u8]) -> Tally>(answers: &F, tally: Tally, b: &[u8], got: usize) -> Turn
+    requires pre { (f : F) (t : _) (x : _) → F.pre f t x }
+    ensures whole { got ≡ length b.now → F.post answers.now tally b.entry result.tally × (result.more ≡ true) }
+    ensures last { (got == length b.now) ≡ false
+        → (result.tally.compared ≡ (if nat_eq got 0 then tally.compared else further tally.compared 1))
+        × ((result.tally.differing ≡ (if nat_eq got 0 then tally.differing else further tally.differing 1)) × (result.more ≡ false)) }
+{
+    if got == b.len() {
+        Turn::whole(answers(tally, b))
+    } else {
+        Turn::last(tally, got)
+    }
+}
+
+// Turns until the input ends. A proved loop has to end, so it takes as many turns at most as no input has.
+pub fn compare<R: Read, F: FnMut(&mut R, Tally) -> io::Result<Turn>>(
+    from: &mut R,
+    mut one: F,
+) -> io::Result<Tally>
+    requires { F.IsAlwaysCallable one }
+{
+    let mut t = Tally::none();
+    for _ in 0..u64::MAX {
+        let last = one(from, t)?;
+        t = last.tally;
+        if !last.more {
+            break;
+        }
+    }
+    Ok(t)
+}
+
+// Every record of the input, each as long as the buffer.
+pub fn compare_each<R: Read, F: Fn(Tally, &[u8]) -> Tally>(
+    from: &mut R,
+    buf: &mut [u8],
+    answers: F,
+) -> io::Result<Tally>
+    requires pre { (f : F) (t : _) (x : _) → F.pre f t x }
+{
+    compare(
+        from,
+        |from, t|
+            requires { (f : F) (t : _) (x : _) → F.pre f t x }
+        {
+            let got = read_full(from, buf)?;
+            Ok(one_turn(&answers, t, buf, got))
+        },
+    )
+}
+
+// The records of a section, which begins with their number: part of a record is a damaged input, and counts as a difference.
+pub fn compare_section<R: Read, F: Fn(Tally, &[u8]) -> Tally>(
+    from: &mut R,
+    buf: &mut [u8],
+    answers: F,
+) -> io::Result<Tally>
+    requires { F.IsAlwaysCallable answers }
+{
+    let mut count = [0u8; 2];
+    read_full(from, &mut count)?;
+    let mut t = Tally::none();
+    for _ in 0..half(&count, 0) {
+        let got = read_full(from, buf)?;
+        t = if got == buf.len() {
+            answers(t, buf)
+        } else {
+            t.with(false)
+        };
+    }
+    Ok(t)
+}
+
+// Reads n bytes to the front of a buffer, or as many as it has room for, and answers whether all came.
+fn filled<R: Read>(from: &mut R, buf: &mut [u8], n: usize) -> io::Result<bool> {
+    let k = n.min(buf.len());
+    Ok(read_full(from, &mut buf[..k])? == k)
+}
+
+// Every record of a head and two bodies: the u16 at 0 in the head says how long the first body is, that at `second_at` how long the second.
+// A record that ends in a body counts as a difference.
+pub fn compare_bodies<R: Read, F: Fn(Tally, &[u8], &mut [u8], &[u8]) -> Tally>(
+    from: &mut R,
+    head: &mut [u8],
+    second_at: usize,
+    answers: F,
+) -> io::Result<Tally>
+    requires pre { (f : F) (t : _) (x : _) (y : _) (z : _) → F.pre f t x y z }
+{
+    compare(
+        from,
+        |from, t|
+            requires { (f : F) (t : _) (x : _) (y : _) (z : _) → F.pre f t x y z }
+        {
+            let got = read_full(from, head)?;
+            if got != head.len() {
+                return Ok(Turn::last(t, got));
+            }
+            let mut first = [0u8; 65536];
+            let mut second = [0u8; 65536];
+            let n = half(head, 0);
+            let m = half(head, second_at);
+            if filled(from, &mut first, n)? && filled(from, &mut second, m)? {
+                let to = at_most(n, first.len());
+                let end = at_most(m, second.len());
+                return Ok(Turn::whole(answers(t, head, &mut first[..to], &second[..end])));
+            }
+            Ok(Turn::last(t, got))
+        },
+    )
+}
+
+// Writes the line that a comparison ends with.
+pub fn print(rt: &impl Print, t: Tally, of: &str) -> io::Result<()> {
+    println!(rt;
+        "{} answers{of} compared, {} differ",
+        t.compared, t.differing
+    )
 }
 
 // An index k further on: no index of a record is near the end of numbers.
@@ -223,6 +344,16 @@ pub fn quads(b: &[u8], at: usize, out: &mut [u32])
     }
 }
 
+// Fills a column with the u64 from an index on.
+#[tactic(auto, using(crate::proofs::Columns::fills))]
+pub fn words(b: &[u8], at: usize, out: &mut [u64])
+    ensures { out.new ≡ filled 8 b.now at out.old }
+{
+    for (j, x) in out.iter_mut().enumerate() {
+        *x = word(b, plus(at, 8 * j));
+    }
+}
+
 // Whether two columns of u8 are the same.
 #[tactic(auto, using(crate::proofs::Columns::by_equal))]
 pub fn same_raws(a: &[u8], b: &[u8]) -> bool
@@ -281,4 +412,48 @@ pub fn front_words(s: &[u64], n: usize) -> &[u64]
     ensures { result.now ≡ front n s.now }
 {
     front(s, n)
+}
+
+// Whether the first n bytes of a buffer are the whole text that is due.
+pub fn same_text(got: &[u8], n: usize, due: &[u8]) -> bool
+    ensures { result ≡ (n == min n (length got.now)) && same (take (min n (length got.now)) got.now) due.now }
+{
+    n <= got.len() && same_raws(front(got, n), due)
+}
+
+// Whether each byte from an index on is the one that a buffer was filled with.
+pub fn unwritten(out: &[u8], from: usize, fill: u8) -> bool {
+    out.iter().skip(from).all(|byte| *byte == fill)
+}
+
+// An answer among stored numbers: a refusal is its number above a base.
+pub fn counted(answer: Result<usize, u8>, base: usize) -> usize
+    ensures { result ≡ above base answer }
+{
+    answer.unwrap_or_else(|n| plus(base, usize::from(n)))
+}
+
+// Yes or no among them.
+pub fn yes_no(answer: Result<bool, u8>, base: usize) -> usize
+    ensures { result ≡ above_yes base answer }
+{
+    counted(answer.map(usize::from), base)
+}
+
+// A refusal's number alone among them, 0 for none.
+pub fn refusal(n: u8, base: usize) -> usize
+    ensures { result ≡ (if nat_eq n 0 then 0 else further base n) }
+{
+    if n == 0 {
+        0
+    } else {
+        plus(base, usize::from(n))
+    }
+}
+
+// A figure among stored figures.
+pub fn figure(answer: Result<u64, u8>, base: u64) -> u64
+    ensures { result ≡ above base answer }
+{
+    answer.unwrap_or_else(|n| base.wrapping_add(u64::from(n)))
 }

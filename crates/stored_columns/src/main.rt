@@ -6,8 +6,10 @@
 ghost use Rattle.std.specs.Prelude.{◌≤◌};
 
 use std::io;
-use std::io::Read;
-use stored::{Tally, at_most, front_words, half, plus, raw, raws, read_full, same_raws, word};
+use stored::{
+    Tally, at_most, compare_section, front_words, half, plus, print, raw, raws, same_raws, words,
+    yes_no,
+};
 
 // A record: the slots; how long the published column, the draft, the flags and the list are; the flags; both columns; the owner read of
 // each slot; six slots with the number of the refusal, which column and how long; what publishing and the list screen answer and leave.
@@ -33,6 +35,9 @@ const MOST: usize = 80;
 // What a list holds before a call.
 const FILL: u8 = 171;
 
+// What a refusal's number is counted from, among yes and no.
+const REFUSED: usize = 100;
+
 // A column, and the flags.
 fn column(b: &[u8], at: usize) -> [u8; MOST] {
     let mut out = [0u8; MOST];
@@ -42,9 +47,7 @@ fn column(b: &[u8], at: usize) -> [u8; MOST] {
 
 fn flags(b: &[u8]) -> [u64; 16] {
     let mut out = [0u64; 16];
-    for j in 0..16usize {
-        out[j] = word(b, plus(FLAGS_AT, 8 * j));
-    }
+    words(b, FLAGS_AT, &mut out);
     out
 }
 
@@ -62,15 +65,6 @@ fn room(b: &[u8], at: usize) -> usize
 // Whether a whole column is the one at an index: what was not lent, too.
 fn is_column(got: &[u8; MOST], b: &[u8], at: usize) -> bool {
     same_raws(got, &column(b, at))
-}
-
-// Which column, as it is stored: 1, 0, or a refusal's number past 100.
-fn told(answer: Result<bool, u8>) -> usize {
-    match answer {
-        Ok(true) => 1,
-        Ok(false) => 0,
-        Err(n) => 100 + n as usize,
-    }
 }
 
 // Whether a part has as many owners as are due, and each is the one read of its slot.
@@ -96,7 +90,7 @@ fn slot_answers(tally: Tally, b: &[u8], at: usize) -> Tally {
     let refusal = columns::stretch_refusal(slots, p, d, f, slot);
     let t1 = tally.with(refusal.number as usize == half(b, plus(at, 2)));
     let which = columns::is_published(slots, p, d, f, slot);
-    let t2 = t1.with(told(which) == half(b, plus(at, 4)));
+    let t2 = t1.with(yes_no(which, REFUSED) == half(b, plus(at, 4)));
     let part = columns::stretch(slots, p, d, f, slot);
     t2.with(is_part(part, b, slot, half(b, plus(at, 6))))
 }
@@ -146,33 +140,7 @@ fn record_answers(tally: Tally, b: &[u8]) -> Tally {
     show_answers(publish_answers(t6, b), b)
 }
 
-// Reads one record and compares its answers. Part of a record is a damaged file, and counts as a difference.
-fn one_record<R: Read>(from: &mut R, tally: Tally) -> io::Result<Tally> {
-    let mut b = [0u8; RECORD];
-    let got = read_full(from, &mut b)?;
-    if got == RECORD {
-        return Ok(record_answers(tally, &b));
-    }
-    Ok(tally.with(false))
-}
-
-// How many records there are.
-fn records<R: Read>(from: &mut R) -> io::Result<usize> {
-    let mut b = [0u8; 2];
-    read_full(from, &mut b)?;
-    Ok(half(&b, 0))
-}
-
-// Every record.
-fn compare<R: Read>(from: &mut R) -> io::Result<Tally> {
-    let mut t = Tally::none();
-    for _ in 0..records(from)? {
-        t = one_record(from, t)?;
-    }
-    Ok(t)
-}
-
 fn main(rt: HostRuntime) -> io::Result<()> {
-    let t = compare(&mut rt.stdin())?;
-    println!(rt; "{} answers compared, {} differ", t.compared, t.differing)
+    let t = compare_section(&mut rt.stdin(), &mut [0u8; RECORD], record_answers)?;
+    print(&rt, t, "")
 }

@@ -4,10 +4,9 @@
 #![tactic(auto)]
 
 use std::io;
-use std::io::{Print, Read};
 use stored::{
-    Tally, Turn, at_most, half, plus, quads, raws, read_full, rows, same_raws, same_words, shorts,
-    word,
+    Tally, at_most, counted, half, plus, quads, raws, rows, same_raws, same_words, shorts, word,
+    words,
 };
 
 // A record: counts and the list's room, slots, units, who can cover which, frozen slots, the rota as it was found; how many repairs are
@@ -70,18 +69,15 @@ fn sets_at(b: &[u8], at: usize) -> [u64; 64] {
 }
 
 fn minutes_at(b: &[u8], at: usize) -> [u64; 4] {
-    let from = plus(at, MINUTES);
-    [
-        word(b, from),
-        word(b, plus(from, 8)),
-        word(b, plus(from, 16)),
-        word(b, plus(from, 24)),
-    ]
+    let mut out = [0u64; 4];
+    words(b, plus(at, MINUTES), &mut out);
+    out
 }
 
 fn totals_at(b: &[u8], at: usize) -> [u64; 2] {
-    let from = plus(at, TOTALS);
-    [word(b, from), word(b, plus(from, 8))]
+    let mut out = [0u64; 2];
+    words(b, plus(at, TOTALS), &mut out);
+    out
 }
 
 // The same arrays, handed back: what a function hands back has its length known where it is lent on.
@@ -184,29 +180,19 @@ fn mended(b: &[u8]) -> After {
 
 // Whether the answer is the one that is due.
 fn is_due(number: Result<usize, u8>, b: &[u8]) -> bool {
-    let due = half(b, REPAIRS_AT);
-    match number {
-        Ok(n) => n == due,
-        Err(n) => n as usize + REFUSED == due,
-    }
+    counted(number, REFUSED) == half(b, REPAIRS_AT)
 }
 
 // Whether the list is the one that is due.
 fn is_list(list: &[u64], b: &[u8]) -> bool {
-    for (k, repair) in list.iter().enumerate() {
-        if *repair != word(b, plus(LIST_AT, 8 * k)) {
-            return false;
-        }
-    }
-    true
+    list.iter()
+        .enumerate()
+        .all(|(k, repair)| *repair == word(b, plus(LIST_AT, 8 * k)))
 }
 
 // Whether no repair was made.
 fn is_none(number: Result<usize, u8>) -> bool {
-    match number {
-        Ok(n) => n == 0,
-        Err(_) => false,
-    }
+    number.is_ok_and(|n| n == 0)
 }
 
 // Whether a rota that was mended needs no repair, for which no list is needed; one that was refused isn't asked.
@@ -249,34 +235,7 @@ fn compared(tally: Tally, b: &[u8]) -> Tally {
     t.with(is_mended(b, number, owners, sets, minutes, totals))
 }
 
-// Reads one record and compares it.
-fn one_record<R: Read>(from: &mut R, tally: Tally) -> io::Result<Turn> {
-    let mut b = [0u8; RECORD];
-    let got = read_full(from, &mut b)?;
-    if got == RECORD {
-        return Ok(Turn::whole(compared(tally, &b)));
-    }
-    Ok(Turn::last(tally, got))
-}
-
-// Every record of the input. A proved loop has to end, so it takes as many turns at most as no input has.
-fn compare<R: Read>(from: &mut R) -> io::Result<Tally> {
-    let mut t = Tally::none();
-    for _ in 0..u64::MAX {
-        let last = one_record(from, t)?;
-        t = last.tally;
-        if !last.more {
-            break;
-        }
-    }
-    Ok(t)
-}
-
-// Writes the line that a comparison ends with.
-fn print(rt: &impl Print, t: Tally) -> io::Result<()> {
-    println!(rt; "{} answers compared, {} differ", t.compared, t.differing)
-}
-
 fn main(rt: HostRuntime) -> io::Result<()> {
-    print(&rt, compare(&mut rt.stdin())?)
+    let t = stored::compare_each(&mut rt.stdin(), &mut [0u8; RECORD], compared)?;
+    stored::print(&rt, t, "")
 }

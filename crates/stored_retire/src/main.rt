@@ -5,10 +5,9 @@
 use paper::Refusal;
 use retire::Retiring;
 use std::io;
-use std::io::{Print, Read};
 use stored::{
-    Tally, Turn, at_most, front_quads, front_shorts, half, plus, quads, raw, raws, read_full, rows,
-    same_quads, same_raws, same_shorts, same_words, short, shorts, word,
+    Tally, at_most, front_quads, front_shorts, half, plus, quads, raw, raws, rows, same_quads,
+    same_raws, same_shorts, same_words, short, shorts, word, words,
 };
 use units::Settings;
 
@@ -160,17 +159,13 @@ fn flags(b: &[u8], at: usize) -> [u64; 16] {
 // Four, two and one u64.
 fn four_words(b: &[u8], at: usize) -> [u64; 4] {
     let mut out = [0u64; 4];
-    out[0] = word(b, at);
-    out[1] = word(b, plus(at, 8));
-    out[2] = word(b, plus(at, 16));
-    out[3] = word(b, plus(at, 24));
+    words(b, at, &mut out);
     out
 }
 
 fn two_words(b: &[u8], at: usize) -> [u64; 2] {
     let mut out = [0u64; 2];
-    out[0] = word(b, at);
-    out[1] = word(b, plus(at, 8));
+    words(b, at, &mut out);
     out
 }
 
@@ -348,34 +343,7 @@ fn compared(tally: Tally, b: &[u8]) -> Tally {
     with_column(t, b)
 }
 
-// Reads one record and compares it.
-fn one_record<R: Read>(from: &mut R, tally: Tally) -> io::Result<Turn> {
-    let mut b = [0u8; RECORD];
-    let got = read_full(from, &mut b)?;
-    if got == RECORD {
-        return Ok(Turn::whole(compared(tally, &b)));
-    }
-    Ok(Turn::last(tally, got))
-}
-
-// Every record of the input. A proved loop has to end, so it takes as many turns at most as no input has.
-fn compare<R: Read>(from: &mut R) -> io::Result<Tally> {
-    let mut t = Tally::none();
-    for _ in 0..u64::MAX {
-        let last = one_record(from, t)?;
-        t = last.tally;
-        if !last.more {
-            break;
-        }
-    }
-    Ok(t)
-}
-
-// Writes the line that a comparison ends with.
-fn print(rt: &impl Print, t: Tally) -> io::Result<()> {
-    println!(rt; "{} answers compared, {} differ", t.compared, t.differing)
-}
-
 fn main(rt: HostRuntime) -> io::Result<()> {
-    print(&rt, compare(&mut rt.stdin())?)
+    let t = stored::compare_each(&mut rt.stdin(), &mut [0u8; RECORD], compared)?;
+    stored::print(&rt, t, "")
 }

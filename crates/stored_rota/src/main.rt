@@ -6,10 +6,9 @@ ghost use Rattle.std.specs.Prelude.{◌≤◌};
 
 use paper::Refusal;
 use std::io;
-use std::io::{Print, Read};
 use stored::{
-    Tally, at_most, front_shorts, half, plus, quad, quads, raw, raws, read_full, same_raws,
-    same_words, shorts,
+    Tally, at_most, compare_section, front_shorts, half, plus, print, quad, quads, raw, raws,
+    same_raws, same_words, shorts,
 };
 
 // A record: people, slots, units, draws; the slots; where units begin; who can cover which slot; frozen slots; the owners before; the
@@ -571,62 +570,43 @@ fn recount_fails(tally: Tally, b: &[u8]) -> Tally {
     t2.with(is_refusal(end.refusal, b, REFUSAL_AT))
 }
 
-// The answers of a record of a section.
-fn record_answers(section: usize, tally: Tally, b: &[u8]) -> Tally {
-    match section {
-        0 => play_answers(tally, b),
-        1 => twin_acts(tally, b),
-        2 => uneven_refused(tally, b),
-        3 => unequal_swap(tally, b),
-        4 => reassign_covers(tally, b),
-        5 => assign_answers(tally, b),
-        6 => damaged_refused(tally, b),
-        _ => recount_fails(tally, b),
-    }
-}
-
-// Reads one record and compares its answers. Part of a record is a damaged file, and counts as a difference.
-fn one_record<R: Read>(from: &mut R, section: usize, tally: Tally) -> io::Result<Tally> {
-    let mut b = [0u8; RECORD];
-    let got = read_full(from, &mut b)?;
-    if got == RECORD {
-        return Ok(record_answers(section, tally, &b));
-    }
-    Ok(tally.with(false))
-}
-
-// How many records come next.
-fn records<R: Read>(from: &mut R) -> io::Result<usize> {
-    let mut b = [0u8; 2];
-    read_full(from, &mut b)?;
-    Ok(half(&b, 0))
-}
-
-// Every record of a section.
-fn compare<R: Read>(from: &mut R, section: usize) -> io::Result<Tally> {
-    let mut t = Tally::none();
-    for _ in 0..records(from)? {
-        t = one_record(from, section, t)?;
-    }
-    Ok(t)
-}
-
-// Writes the line of a section.
-fn print(rt: &impl Print, t: Tally, of: &str) -> io::Result<()> {
-    println!(rt;
-        "{} answers{of} compared, {} differ",
-        t.compared, t.differing
-    )
-}
-
 fn main(rt: HostRuntime) -> io::Result<()> {
     let mut from = rt.stdin();
-    print(&rt, compare(&mut from, 0)?, "")?;
-    print(&rt, compare(&mut from, 1)?, " of unfrozen twins")?;
-    print(&rt, compare(&mut from, 2)?, " of rotas made uneven")?;
-    print(&rt, compare(&mut from, 3)?, " of swaps of unequal units")?;
-    print(&rt, compare(&mut from, 4)?, " of reassigns")?;
-    print(&rt, compare(&mut from, 5)?, " of single assigns")?;
-    print(&rt, compare(&mut from, 6)?, " of damaged rotas")?;
-    print(&rt, compare(&mut from, 7)?, " of failed recounts")
+    let mut b = [0u8; RECORD];
+    print(&rt, compare_section(&mut from, &mut b, play_answers)?, "")?;
+    print(
+        &rt,
+        compare_section(&mut from, &mut b, twin_acts)?,
+        " of unfrozen twins",
+    )?;
+    print(
+        &rt,
+        compare_section(&mut from, &mut b, uneven_refused)?,
+        " of rotas made uneven",
+    )?;
+    print(
+        &rt,
+        compare_section(&mut from, &mut b, unequal_swap)?,
+        " of swaps of unequal units",
+    )?;
+    print(
+        &rt,
+        compare_section(&mut from, &mut b, reassign_covers)?,
+        " of reassigns",
+    )?;
+    print(
+        &rt,
+        compare_section(&mut from, &mut b, assign_answers)?,
+        " of single assigns",
+    )?;
+    print(
+        &rt,
+        compare_section(&mut from, &mut b, damaged_refused)?,
+        " of damaged rotas",
+    )?;
+    print(
+        &rt,
+        compare_section(&mut from, &mut b, recount_fails)?,
+        " of failed recounts",
+    )
 }

@@ -5,10 +5,9 @@
 ghost use Rattle.std.specs.Prelude.{◌≤◌};
 
 use std::io;
-use std::io::{Print, Read};
 use stored::{
-    Tally, Turn, at_most, front_quads, front_shorts, front_words, half, plus, quad, quads,
-    read_full, rows, same_quads, same_shorts, same_words, shorts, size,
+    Tally, at_most, counted, figure, front_quads, front_shorts, front_words, half, plus, quad,
+    quads, refusal, rows, same_quads, same_shorts, same_words, shorts, size, yes_no,
 };
 
 // A record: counts and what is asked; how long each lent column is; the columns; rows and flags before and after; the answers; the columns
@@ -80,6 +79,11 @@ const ATOM_ENDS_DUE_AT: usize = 594;
 
 // What a lent output holds before a call.
 const FILL: u32 = 3735928559;
+
+// What a refusal's number is counted from, among counts and among minutes.
+const REFUSED: usize = 65000;
+
+const REFUSED_MINUTES: u64 = 4000000000;
 
 // How long lent column k is.
 fn long(b: &[u8], k: usize) -> usize {
@@ -167,42 +171,6 @@ fn is_one_row(got: &[u64; 17], b: &[u8], at: usize) -> bool {
     same_words(got, &one_row(b, at))
 }
 
-// A refusal, among counts and among minutes.
-fn refused(number: u8) -> usize {
-    65000 + number as usize
-}
-
-fn refused_minutes(number: u8) -> u64 {
-    4000000000 + number as u64
-}
-
-// An answer as it is stored: a count, yes or no, a number alone, minutes.
-fn counted(answer: Result<usize, u8>) -> usize {
-    match answer {
-        Ok(k) => k,
-        Err(n) => refused(n),
-    }
-}
-
-fn yes_no(answer: Result<bool, u8>) -> usize {
-    match answer {
-        Ok(true) => 1,
-        Ok(false) => 0,
-        Err(n) => refused(n),
-    }
-}
-
-fn number(n: u8) -> usize {
-    if n == 0 { 0 } else { refused(n) }
-}
-
-fn minutes(answer: Result<u64, u8>) -> u64 {
-    match answer {
-        Ok(m) => m,
-        Err(n) => refused_minutes(n),
-    }
-}
-
 // Ranges merged: their number, and the three columns.
 fn merged_answers(tally: Tally, b: &[u8]) -> Tally {
     let who = persons(b, PERSONS_AT);
@@ -224,7 +192,7 @@ fn merged_answers(tally: Tally, b: &[u8]) -> Tally {
         &mut froms[0..of_froms],
         &mut tos[0..of_tos],
     );
-    let t1 = tally.with(counted(got) == half(b, MERGED_DUE_AT));
+    let t1 = tally.with(counted(got, REFUSED) == half(b, MERGED_DUE_AT));
     let t2 = t1.with(is_persons(&whose, b, WHOSE_DUE_AT));
     let t3 = t2.with(is_eight(&froms, b, FROMS_DUE_AT));
     t3.with(is_eight(&tos, b, TOS_DUE_AT))
@@ -253,7 +221,7 @@ fn atom_answers(tally: Tally, b: &[u8]) -> Tally {
         &mut froms[0..of_froms],
         &mut tos[0..of_tos],
     );
-    let t1 = tally.with(counted(got) == half(b, ATOMS_DUE_AT));
+    let t1 = tally.with(counted(got, REFUSED) == half(b, ATOMS_DUE_AT));
     let t2 = t1.with(is_atoms(&froms, b, ATOM_STARTS_DUE_AT));
     t2.with(is_atoms(&tos, b, ATOM_ENDS_DUE_AT))
 }
@@ -284,7 +252,7 @@ fn availability_answers(tally: Tally, b: &[u8]) -> Tally {
     let of_words = room(b, 7, 65);
     let got = availability(b, &mut words[0..of_words]);
     let due = half(b, ABLE_DUE_AT);
-    let t1 = tally.with(number(got) == due);
+    let t1 = tally.with(refusal(got, REFUSED) == due);
     let rows_at = if due == 0 { ABLE_AT } else { BEFORE_AT };
     t1.with(is_four_rows(&words, b, rows_at))
 }
@@ -302,7 +270,7 @@ fn freezing_answers(tally: Tally, b: &[u8]) -> Tally {
         &mut flags[0..of_flags],
         quad(b, INSTANT_AT),
     );
-    let t1 = tally.with(counted(got) == half(b, FROZEN_DUE_AT));
+    let t1 = tally.with(counted(got, REFUSED) == half(b, FROZEN_DUE_AT));
     t1.with(is_one_row(&flags, b, FROZEN_AT))
 }
 
@@ -316,7 +284,7 @@ fn yes_no_answer(tally: Tally, b: &[u8]) -> Tally {
         size(b, PERSON_AT),
         size(b, SLOT_AT),
     );
-    tally.with(yes_no(got) == half(b, YES_NO_DUE_AT))
+    tally.with(yes_no(got, REFUSED) == half(b, YES_NO_DUE_AT))
 }
 
 // Demand, and one slot's minutes.
@@ -335,8 +303,8 @@ fn length_answers(tally: Tally, b: &[u8]) -> Tally {
         of_sixteen(&ends, long(b, 6)),
         size(b, SLOT_AT),
     );
-    let t1 = tally.with(minutes(all) == quad(b, DEMAND_DUE_AT) as u64);
-    t1.with(minutes(one) == quad(b, MINUTES_DUE_AT) as u64)
+    let t1 = tally.with(figure(all, REFUSED_MINUTES) == u64::from(quad(b, DEMAND_DUE_AT)));
+    t1.with(figure(one, REFUSED_MINUTES) == u64::from(quad(b, MINUTES_DUE_AT)))
 }
 
 // All answers of a record.
@@ -349,34 +317,7 @@ fn record_answers(tally: Tally, b: &[u8]) -> Tally {
     length_answers(t5, b)
 }
 
-// Reads one record and compares its answers.
-fn one_record<R: Read>(from: &mut R, tally: Tally) -> io::Result<Turn> {
-    let mut b = [0u8; RECORD];
-    let got = read_full(from, &mut b)?;
-    if got == RECORD {
-        return Ok(Turn::whole(record_answers(tally, &b)));
-    }
-    Ok(Turn::last(tally, got))
-}
-
-// Every record of the input. A proved loop has to end, so it takes as many turns at most as no input has.
-fn compare<R: Read>(from: &mut R) -> io::Result<Tally> {
-    let mut t = Tally::none();
-    for _ in 0..u64::MAX {
-        let last = one_record(from, t)?;
-        t = last.tally;
-        if !last.more {
-            break;
-        }
-    }
-    Ok(t)
-}
-
-// Writes the line that a comparison ends with.
-fn print(rt: &impl Print, t: Tally) -> io::Result<()> {
-    println!(rt; "{} answers compared, {} differ", t.compared, t.differing)
-}
-
 fn main(rt: HostRuntime) -> io::Result<()> {
-    print(&rt, compare(&mut rt.stdin())?)
+    let t = stored::compare_each(&mut rt.stdin(), &mut [0u8; RECORD], record_answers)?;
+    stored::print(&rt, t, "")
 }

@@ -4,8 +4,7 @@
 
 use slotset::{NextRun, Run, SlotSet, row};
 use std::io;
-use std::io::{Print, Read};
-use stored::{Tally, Turn, half, plus, read_full, same_words, word};
+use stored::{Tally, half, plus, same_words};
 
 // A record: length, words, is_empty, count, eight indexes with their answers in 22 bytes each, and four changes.
 const RECORD: usize = 834;
@@ -24,9 +23,7 @@ const REFUSED: usize = 65534;
 // The sixteen words at an index.
 fn words(b: &[u8], at: usize) -> [u64; 16] {
     let mut out = [0u64; 16];
-    for j in 0..16usize {
-        out[j] = word(b, plus(at, 8 * j));
-    }
+    stored::words(b, at, &mut out);
     out
 }
 
@@ -39,11 +36,7 @@ fn is_after(changed: slotset::Changed, b: &[u8], at: usize) -> bool {
 
 // An answer as it is stored: yes or no, a number, a slot or nothing.
 fn yes_no(answer: Result<bool, u8>) -> usize {
-    match answer {
-        Ok(true) => 1,
-        Ok(false) => 0,
-        Err(_) => REFUSED,
-    }
+    answer.map_or(REFUSED, usize::from)
 }
 
 fn counted(answer: Result<usize, u8>) -> usize {
@@ -51,10 +44,7 @@ fn counted(answer: Result<usize, u8>) -> usize {
 }
 
 fn found(answer: Result<Option<usize>, u8>) -> usize {
-    match answer {
-        Ok(slot) => slot.unwrap_or(NOTHING),
-        Err(_) => REFUSED,
-    }
+    answer.map_or(REFUSED, |slot| slot.unwrap_or(NOTHING))
 }
 
 // Whether a stretch is what an index has: 0, a run, or 1, a hole, with its two ends; or nothing.
@@ -139,34 +129,7 @@ fn record_answers(tally: Tally, b: &[u8]) -> Tally {
     change_answers(t, SlotSet { words: ws, len }, b)
 }
 
-// Reads one record and compares its answers.
-fn one_record<R: Read>(from: &mut R, tally: Tally) -> io::Result<Turn> {
-    let mut b = [0u8; RECORD];
-    let got = read_full(from, &mut b)?;
-    if got == RECORD {
-        return Ok(Turn::whole(record_answers(tally, &b)));
-    }
-    Ok(Turn::last(tally, got))
-}
-
-// Every record of the input. A proved loop has to end, so it takes as many turns at most as no input has.
-fn compare<R: Read>(from: &mut R) -> io::Result<Tally> {
-    let mut t = Tally::none();
-    for _ in 0..u64::MAX {
-        let last = one_record(from, t)?;
-        t = last.tally;
-        if !last.more {
-            break;
-        }
-    }
-    Ok(t)
-}
-
-// Writes the line that a comparison ends with.
-fn print(rt: &impl Print, t: Tally) -> io::Result<()> {
-    println!(rt; "{} answers compared, {} differ", t.compared, t.differing)
-}
-
 fn main(rt: HostRuntime) -> io::Result<()> {
-    print(&rt, compare(&mut rt.stdin())?)
+    let t = stored::compare_each(&mut rt.stdin(), &mut [0u8; RECORD], record_answers)?;
+    stored::print(&rt, t, "")
 }

@@ -4,8 +4,7 @@
 #![tactic(auto)]
 
 use std::io;
-use std::io::{Print, Read};
-use stored::{Tally, Turn, half, plus, quad, quads, read_full};
+use stored::{half, plus, quad, quads};
 
 // A record: people, slots, fairness, edition; the slots; who can cover which; the figures; the targets.
 const RECORD: usize = 200;
@@ -100,34 +99,11 @@ fn same_targets(b: &[u8]) -> bool {
     same
 }
 
-// Reads one record and compares it.
-fn one_record<R: Read>(from: &mut R, tally: Tally) -> io::Result<Turn> {
-    let mut b = [0u8; RECORD];
-    let got = read_full(from, &mut b)?;
-    if got == RECORD {
-        return Ok(Turn::whole(tally.with(same_targets(&b))));
-    }
-    Ok(Turn::last(tally, got))
-}
-
-// Every record of the input. A proved loop has to end, so it takes as many turns at most as no input has.
-fn compare<R: Read>(from: &mut R) -> io::Result<Tally> {
-    let mut t = Tally::none();
-    for _ in 0..u64::MAX {
-        let last = one_record(from, t)?;
-        t = last.tally;
-        if !last.more {
-            break;
-        }
-    }
-    Ok(t)
-}
-
-// Writes the line that a comparison ends with.
-fn print(rt: &impl Print, t: Tally) -> io::Result<()> {
-    println!(rt; "{} answers compared, {} differ", t.compared, t.differing)
-}
-
 fn main(rt: HostRuntime) -> io::Result<()> {
-    print(&rt, compare(&mut rt.stdin())?)
+    let t = stored::compare_each(
+        &mut rt.stdin(),
+        &mut [0u8; RECORD],
+        |t, b| t.with(same_targets(b)),
+    )?;
+    stored::print(&rt, t, "")
 }

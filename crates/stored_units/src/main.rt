@@ -6,10 +6,10 @@
 ghost use Rattle.std.specs.Prelude.{◌≤◌};
 
 use std::io;
-use std::io::{Print, Read};
 use stored::{
-    Tally, at_most, front_quads, front_shorts, front_words, half, plus, quads, raw, raws,
-    read_full, rows, same_quads, same_raws, same_shorts, short, shorts, size, word,
+    Tally, at_most, compare_section, counted, figure, front_quads, front_shorts, front_words, half,
+    plus, print, quads, raw, raws, refusal, rows, same_quads, same_raws, same_shorts, short,
+    shorts, size, word, yes_no,
 };
 use units::{Settings, UnitSlots};
 
@@ -89,6 +89,11 @@ const FILL_PEOPLE: u8 = 171;
 
 const FILL_MASKS: u32 = 3735928559;
 
+// What a refusal's number is counted from, among counts, and among days and minutes.
+const REFUSED: usize = 65000;
+
+const REFUSED_FIGURE: u64 = 1000000000000000000;
+
 // How long lent column k is.
 fn long(b: &[u8], k: usize) -> usize {
     half(b, plus(LONG_AT, plus(k, k)))
@@ -158,56 +163,16 @@ fn is_masks(got: &[u32; 16], b: &[u8], at: usize) -> bool {
     same_quads(got, &sixteen(b, at))
 }
 
-// A refusal, among counts, and among days and minutes.
-fn refused(number: u8) -> usize {
-    65000 + number as usize
-}
-
-fn refused_figure(number: u8) -> u64 {
-    1000000000000000000 + number as u64
-}
-
-// An answer as it is stored: a number, yes or no, a refusal's number alone, days, minutes.
-fn counted(answer: Result<usize, u8>) -> usize {
-    match answer {
-        Ok(k) => k,
-        Err(n) => refused(n),
-    }
-}
-
-fn yes_no(answer: Result<bool, u8>) -> usize {
-    match answer {
-        Ok(true) => 1,
-        Ok(false) => 0,
-        Err(n) => refused(n),
-    }
-}
-
-fn number(n: u8) -> usize {
-    if n == 0 { 0 } else { refused(n) }
-}
-
-fn days(answer: Result<usize, u8>) -> u64 {
-    match answer {
-        Ok(k) => k as u64,
-        Err(n) => refused_figure(n),
-    }
-}
-
-fn minutes(answer: Result<u64, u8>) -> u64 {
-    match answer {
-        Ok(m) => m,
-        Err(n) => refused_figure(n),
-    }
-}
-
 // Whether a unit has the slots that are due, or is refused as it is due.
 fn is_span(answer: Result<UnitSlots, u8>, b: &[u8]) -> bool {
     let first = half(b, FROM_DUE_AT);
     let past = half(b, TO_DUE_AT);
     match answer {
         Ok(span) => span.from == first && span.to == past,
-        Err(n) => refused(n) == first && refused(n) == past,
+        Err(n) => {
+            let refused = plus(REFUSED, usize::from(n));
+            refused == first && refused == past
+        }
     }
 }
 
@@ -224,7 +189,7 @@ fn rotation_answers(tally: Tally, b: &[u8]) -> Tally {
         front_quads(&ends, long(b, 1)),
         &mut out[0..of_out],
     );
-    let t1 = tally.with(counted(got) == half(b, ROTATIONS_DUE_AT));
+    let t1 = tally.with(counted(got, REFUSED) == half(b, ROTATIONS_DUE_AT));
     t1.with(is_firsts(&out, b, ROTATION_LIST_AT))
 }
 
@@ -241,7 +206,7 @@ fn unit_start_answers(tally: Tally, b: &[u8]) -> Tally {
         front_quads(&ends, long(b, 1)),
         &mut out[0..of_out],
     );
-    let t1 = tally.with(counted(got) == half(b, UNIT_STARTS_DUE_AT));
+    let t1 = tally.with(counted(got, REFUSED) == half(b, UNIT_STARTS_DUE_AT));
     t1.with(is_firsts(&out, b, UNIT_LIST_AT))
 }
 
@@ -252,10 +217,12 @@ fn unit_answers(tally: Tally, b: &[u8]) -> Tally {
     let slots = size(b, SLOTS_AT);
     let count = size(b, UNITS_AT);
     let unit = size(b, UNIT_AT);
-    let t1 = tally.with(counted(units::unit_count(slots, count, lent)) == half(b, COUNT_DUE_AT));
+    let t1 = tally.with(
+        counted(units::unit_count(slots, count, lent), REFUSED) == half(b, COUNT_DUE_AT),
+    );
     let t2 = t1.with(is_span(units::unit_slots(slots, count, lent, unit), b));
     let of_slot = units::unit_of_slot(slots, count, lent, size(b, SLOT_AT));
-    t2.with(counted(of_slot) == half(b, UNIT_OF_SLOT_DUE_AT))
+    t2.with(counted(of_slot, REFUSED) == half(b, UNIT_OF_SLOT_DUE_AT))
 }
 
 // Whether a unit is frozen.
@@ -269,7 +236,7 @@ fn frozen_answer(tally: Tally, b: &[u8]) -> Tally {
         front_words(&flags, long(b, 4)),
         size(b, UNIT_AT),
     );
-    tally.with(yes_no(got) == half(b, FROZEN_DUE_AT))
+    tally.with(yes_no(got, REFUSED) == half(b, FROZEN_DUE_AT))
 }
 
 // Who can cover a slot: how many, and the list.
@@ -284,7 +251,7 @@ fn slot_domain_answers(tally: Tally, b: &[u8]) -> Tally {
         &mut out[0..of_out],
         size(b, SLOT_AT),
     );
-    let t1 = tally.with(counted(got) == half(b, SLOT_DOMAIN_DUE_AT));
+    let t1 = tally.with(counted(got, REFUSED) == half(b, SLOT_DOMAIN_DUE_AT));
     t1.with(is_list(&out, b, SLOT_PEOPLE_AT))
 }
 
@@ -303,7 +270,7 @@ fn unit_domain_answers(tally: Tally, b: &[u8]) -> Tally {
         &mut out[0..of_out],
         size(b, UNIT_AT),
     );
-    let t1 = tally.with(counted(got) == half(b, UNIT_DOMAIN_DUE_AT));
+    let t1 = tally.with(counted(got, REFUSED) == half(b, UNIT_DOMAIN_DUE_AT));
     t1.with(is_list(&out, b, UNIT_PEOPLE_AT))
 }
 
@@ -321,7 +288,7 @@ fn unit_domains_answers(tally: Tally, b: &[u8]) -> Tally {
         front_shorts(&begin, long(b, 2)),
         &mut out[0..of_out],
     );
-    let t1 = tally.with(number(got) == half(b, UNIT_DOMAINS_DUE_AT));
+    let t1 = tally.with(refusal(got, REFUSED) == half(b, UNIT_DOMAINS_DUE_AT));
     t1.with(is_masks(&out, b, UNIT_MASKS_AT))
 }
 
@@ -332,12 +299,12 @@ fn day_answers(tally: Tally, b: &[u8]) -> Tally {
     let starts = front_quads(&all_starts, long(b, 0));
     let ends = front_quads(&all_ends, long(b, 1));
     let slots = size(b, SLOTS_AT);
-    let t1 = tally.with(days(units::covered_days(slots, starts, ends)) == word(b, DAYS_DUE_AT));
-    let t2 = t1.with(
-        minutes(units::minutes_per_day(slots, starts, ends)) == word(b, PER_DAY_DUE_AT),
-    );
+    let days = units::covered_days(slots, starts, ends).map(|k| k as u64);
+    let per_day = units::minutes_per_day(slots, starts, ends);
+    let t1 = tally.with(figure(days, REFUSED_FIGURE) == word(b, DAYS_DUE_AT));
+    let t2 = t1.with(figure(per_day, REFUSED_FIGURE) == word(b, PER_DAY_DUE_AT));
     let target = units::target_run(slots, settings(b), starts, ends);
-    t2.with(minutes(target) == word(b, TARGET_DUE_AT))
+    t2.with(figure(target, REFUSED_FIGURE) == word(b, TARGET_DUE_AT))
 }
 
 // A person's achievable run.
@@ -354,7 +321,7 @@ fn achievable_answer(tally: Tally, b: &[u8]) -> Tally {
         front_words(&able, long(b, 3)),
         size(b, PERSON_AT),
     );
-    tally.with(minutes(got) == word(b, ACHIEVABLE_DUE_AT))
+    tally.with(figure(got, REFUSED_FIGURE) == word(b, ACHIEVABLE_DUE_AT))
 }
 
 // All answers of a record.
@@ -370,47 +337,14 @@ fn record_answers(tally: Tally, b: &[u8]) -> Tally {
     achievable_answer(t8, b)
 }
 
-// Reads one record and compares its answers. Part of a record is a damaged file, and counts as a difference.
-fn one_record<R: Read>(from: &mut R, tally: Tally) -> io::Result<Tally> {
-    let mut b = [0u8; RECORD];
-    let got = read_full(from, &mut b)?;
-    if got == RECORD {
-        return Ok(record_answers(tally, &b));
-    }
-    Ok(tally.with(false))
-}
-
-// How many records come next.
-fn records<R: Read>(from: &mut R) -> io::Result<usize> {
-    let mut b = [0u8; 2];
-    read_full(from, &mut b)?;
-    Ok(half(&b, 0))
-}
-
-// Every record of a section.
-fn compare<R: Read>(from: &mut R) -> io::Result<Tally> {
-    let mut t = Tally::none();
-    for _ in 0..records(from)? {
-        t = one_record(from, t)?;
-    }
-    Ok(t)
-}
-
-// Writes the line of a section.
-fn print(rt: &impl Print, t: Tally, of: &str) -> io::Result<()> {
-    println!(rt;
-        "{} answers{of} compared, {} differ",
-        t.compared, t.differing
-    )
-}
-
 // Where the Rust counts the days that are covered, and where it counts fewer.
 fn main(rt: HostRuntime) -> io::Result<()> {
     let mut from = rt.stdin();
-    print(&rt, compare(&mut from)?, "")?;
+    let mut b = [0u8; RECORD];
+    print(&rt, compare_section(&mut from, &mut b, record_answers)?, "")?;
     print(
         &rt,
-        compare(&mut from)?,
+        compare_section(&mut from, &mut b, record_answers)?,
         " where the Rust counts fewer days",
     )
 }

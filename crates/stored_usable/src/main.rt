@@ -4,8 +4,7 @@
 #![tactic(auto)]
 
 use std::io;
-use std::io::{Print, Read};
-use stored::{Tally, Turn, half, quad, quads, raws, read_full, rows, shorts};
+use stored::{half, quad, quads, raws, rows, shorts};
 use usable::Verdict;
 
 // A record: counts, figures, slots, units, who can cover which, frozen slots, published owners, owners, the verdict.
@@ -79,37 +78,16 @@ fn judged(b: &[u8]) -> Result<Verdict, u8> {
     )
 }
 
-// Reads one record and compares it.
-fn one_record<R: Read>(from: &mut R, tally: Tally) -> io::Result<Turn> {
-    let mut b = [0u8; RECORD];
-    let got = read_full(from, &mut b)?;
-    if got == RECORD {
-        let verdict = judged(&b);
-        let due = half(&b, VERDICT_AT);
-        let at = half(&b, SLOT_AT);
-        return Ok(Turn::whole(tally.with(is_due(verdict, due, at))));
-    }
-    Ok(Turn::last(tally, got))
-}
-
-// Every record of the input. A proved loop has to end, so it takes as many turns at most as no input has.
-fn compare<R: Read>(from: &mut R) -> io::Result<Tally> {
-    let mut t = Tally::none();
-    for _ in 0..u64::MAX {
-        let last = one_record(from, t)?;
-        t = last.tally;
-        if !last.more {
-            break;
-        }
-    }
-    Ok(t)
-}
-
-// Writes the line that a comparison ends with.
-fn print(rt: &impl Print, t: Tally) -> io::Result<()> {
-    println!(rt; "{} answers compared, {} differ", t.compared, t.differing)
+// Whether a record's rota has the verdict that is due.
+fn as_due(b: &[u8]) -> bool {
+    is_due(judged(b), half(b, VERDICT_AT), half(b, SLOT_AT))
 }
 
 fn main(rt: HostRuntime) -> io::Result<()> {
-    print(&rt, compare(&mut rt.stdin())?)
+    let t = stored::compare_each(
+        &mut rt.stdin(),
+        &mut [0u8; RECORD],
+        |t, b| t.with(as_due(b)),
+    )?;
+    stored::print(&rt, t, "")
 }

@@ -4,10 +4,7 @@
 
 use paper::Refusal;
 use std::io;
-use std::io::{Print, Read};
-use stored::{
-    Tally, Turn, half, plus, quad, quads, raws, read_full, same_raws, same_shorts, shorts,
-};
+use stored::{Tally, half, plus, quad, quads, raws, same_raws, same_shorts, shorts};
 use wayback::Way;
 
 // A record: people, slots, units; the slots; where units begin; who can cover which slot; frozen slots; the remembered owners and those as
@@ -338,34 +335,7 @@ fn compared(tally: Tally, b: &[u8]) -> Tally {
     with_play(t, b, a)
 }
 
-// Reads one record and compares it.
-fn one_record<R: Read>(from: &mut R, tally: Tally) -> io::Result<Turn> {
-    let mut b = [0u8; RECORD];
-    let got = read_full(from, &mut b)?;
-    if got == RECORD {
-        return Ok(Turn::whole(compared(tally, &b)));
-    }
-    Ok(Turn::last(tally, got))
-}
-
-// Every record of the input. A proved loop has to end, so it takes as many turns at most as no input has.
-fn compare<R: Read>(from: &mut R) -> io::Result<Tally> {
-    let mut t = Tally::none();
-    for _ in 0..u64::MAX {
-        let last = one_record(from, t)?;
-        t = last.tally;
-        if !last.more {
-            break;
-        }
-    }
-    Ok(t)
-}
-
-// Writes the line that a comparison ends with.
-fn print(rt: &impl Print, t: Tally) -> io::Result<()> {
-    println!(rt; "{} answers compared, {} differ", t.compared, t.differing)
-}
-
 fn main(rt: HostRuntime) -> io::Result<()> {
-    print(&rt, compare(&mut rt.stdin())?)
+    let t = stored::compare_each(&mut rt.stdin(), &mut [0u8; RECORD], compared)?;
+    stored::print(&rt, t, "")
 }

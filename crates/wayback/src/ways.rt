@@ -7,9 +7,10 @@ ghost use Rattle.wayback.specs.Answers.{way_room_ok, remembered_row, way_row, wa
 use crate::Way;
 use crate::search::first_in_way;
 use crate::writing::write_draws;
-use paper::{Refusal, both};
+use paper::Refusal;
 
 // Rule 2 of units, flags, remembered owners and columns.
+#[tactic(auto, unfolding(crate::specs::Answers::way_room_ok, rota::specs::Entries::columns_enough))]
 fn room_ok(
     slots: usize,
     units: usize,
@@ -22,17 +23,12 @@ fn room_ok(
 ) -> bool
     ensures { result ≡ way_room_ok slots units begins.now frozen.now remembered.now draws.now firsts.now seconds.now }
 {
-    let columns = both(
-        slots <= draws.len(),
-        both(slots <= firsts.len(), slots <= seconds.len()),
-    );
-    both(
-        units <= begins.len(),
-        both(
-            paper::SET_WORDS <= frozen.len(),
-            both(slots <= remembered.len(), columns),
-        ),
-    )
+    units <= begins.len()
+        && paper::SET_WORDS <= frozen.len()
+        && slots <= remembered.len()
+        && slots <= draws.len()
+        && slots <= firsts.len()
+        && slots <= seconds.len()
 }
 
 // A refusal with its number, part and place.

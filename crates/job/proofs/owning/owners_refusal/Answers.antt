@@ -8,5 +8,5 @@ pub returns : goal.returns
 unfolding owners_row
 returns c =
     checked _ refl c.accepted.ensures
-    (link c.check-f.ensures
+    (link c.check_in-f.ensures
     (link (renamed _ 11 c.check.ensures c.all_known-known.ensures) ends))

@@ -2,17 +2,18 @@
 use borrow.Author.Rules.{rules}
 use mathlib.Core.Path.{sym, ap, ◌∙◌}
 use Rattle.paper.specs.Rows.{answer_refusal}
-use Rattle.job.specs.Stages.{value_of}
+use Rattle.owners.specs.Entries.{placeless}
+use Rattle.job.proofs.Passing.{units-some}
 use Rattle.job.proofs.parts.units_of.Goals as goal
 
 pub returns-in-Ok : goal.returns-in-Ok
 returns-in-Ok c =
     let w = c.unit_starts-answer.ensures in
     let e = sym w.said ∙ c.in-Ok.is in
-    record { number = sym (ap answer_refusal e); count = sym (ap value_of e); begins = w.left; room = search rules }
+    record { answer = e; begins = w.left; room = search rules }
 
 pub returns-in-Err : goal.returns-in-Err
 returns-in-Err c =
     let w = c.unit_starts-answer.ensures in
     let e = sym w.said ∙ c.in-Err.is in
-    record { number = sym (ap answer_refusal e); count = sym (ap value_of e); begins = w.left; room = search rules }
+    record { said = c.placeless.ensures ∙ ap placeless (sym (ap answer_refusal e)); some = λ z. units-some _ _ _ _ _ e (sym (ap answer_refusal e) ∙ z) }

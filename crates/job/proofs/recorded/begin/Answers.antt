@@ -27,35 +27,34 @@ bounds-counts-6-2 c = search rules
 pub read_refusal-refusal-requires : goal.read_refusal-refusal-requires
 read_refusal-refusal-requires c = search rules
 
-pub prepare-p-requires : goal.prepare-p-requires
-prepare-p-requires c =
+pub prepare-requires : goal.prepare-requires
+prepare-requires c =
     let w = c.read_file-w.ensures in
-    reads_ok _ _ _ _ _ _ _ w.ok_value c.both-right.ensures w.counts_value.0 w.counts_value.1 c.read_refusal-refusal.ensures c.if-refusal-eq0.true
+    reads_ok _ _ _ _ _ _ _ w.ok_value c.both-right.ensures w.counts_value.0 w.counts_value.1 c.read_refusal-refusal.ensures c.if-refusal-ne0.false
 
 pub begun_of-requires : goal.begun_of-requires
 begun_of-requires c = search rules
 
-pub returns-then-number-eq0 : goal.returns-then-number-eq0
-returns-then-number-eq0 c =
+pub returns-in-Ok : goal.returns-in-Ok
+returns-in-Ok c =
     let w = c.read_file-w.ensures in
-    begun-right _ _ _ _ _ _ _ w.ok_value c.both-right.ensures w.counts_value.0 w.counts_value.1 c.read_refusal-refusal.ensures c.if-refusal-eq0.true _ c.prepare-p.ensures _ c.if-number-eq0.true c.begun_of.ensures
-
-pub refusal_at-requires : goal.refusal_at-requires
-refusal_at-requires c = search rules
+    begun-right _ _ _ _ _ _ _ w.ok_value c.both-right.ensures w.counts_value.0 w.counts_value.1 c.read_refusal-refusal.ensures c.if-refusal-ne0.false
+    _ (rw c.in-Ok.is at c.prepare.ensures) _ c.begun_of.ensures
 
 pub not_begun-requires : goal.not_begun-requires
 not_begun-requires c = search rules
 
-pub returns-then-refusal-eq0 : goal.returns-then-refusal-eq0
-returns-then-refusal-eq0 c =
+pub returns-in-Err : goal.returns-in-Err
+returns-in-Err c =
     let w = c.read_file-w.ensures in
-    begun-unfit _ _ _ _ _ _ _ w.ok_value c.both-right.ensures w.counts_value.0 w.counts_value.1 c.read_refusal-refusal.ensures c.if-refusal-eq0.true _ c.prepare-p.ensures _ _ c.if-number-eq0.false c.refusal_at.ensures
-    c.not_begun.ensures
+    let p = rw c.in-Err.is at c.prepare.ensures in
+    begun-unfit _ _ _ _ _ _ _ w.ok_value c.both-right.ensures w.counts_value.0 w.counts_value.1 c.read_refusal-refusal.ensures c.if-refusal-ne0.false _ _ p.0 p.1
+    c.not_begun-in-Err.ensures
 
-pub not_begun-requires-2 : goal.not_begun-requires-2
-not_begun-requires-2 c = search rules
+pub not_begun-requires-in-Err : goal.not_begun-requires-in-Err
+not_begun-requires-in-Err c = search rules
 
-pub returns : goal.returns
-returns c =
+pub returns-then-refusal-ne0 : goal.returns-then-refusal-ne0
+returns-then-refusal-ne0 c =
     let w = c.read_file-w.ensures in
-    begun-unread _ _ _ _ _ _ _ w.ok_value c.both-right.ensures w.counts_value.0 w.counts_value.1 c.read_refusal-refusal.ensures _ c.if-refusal-eq0.false c.not_begun-2.ensures
+    begun-unread _ _ _ _ _ _ _ w.ok_value c.both-right.ensures w.counts_value.0 w.counts_value.1 c.read_refusal-refusal.ensures _ c.if-refusal-ne0.true c.not_begun.ensures

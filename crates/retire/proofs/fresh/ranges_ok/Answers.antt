@@ -7,5 +7,5 @@ use Rattle.retire.proofs.fresh.ranges_ok.Goals as goal
 pub returns : goal.returns
 returns c =
     let pre = c.requires in
-    c.is_number.ensures
+    c.is_ok.ensures.value
     ∙ ranges-by _ _ _ _ _ (says-people _ pre.1 pre.0) pre.2 pre.3 (search rules) (search rules) (search rules) _ c.merged_ranges.ensures.said

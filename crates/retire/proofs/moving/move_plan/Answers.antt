@@ -2,7 +2,8 @@
 use mathlib.Core.Path.{refl, sym}
 use native.Mathlib.Omega.{arith}
 use Rattle.retire.proofs.Asks.{gone-few}
-use Rattle.retire.proofs.Moved.{right-then, rooms, unit-room, unit-long, new-low, plan-moved}
+use Rattle.retire.proofs.Moved.{starts-short, right-then, rooms, unit-room, unit-long, new-low, plan-moved}
+use Rattle.retire.proofs.News.{fresh_some, fresh_none}
 use Rattle.retire.proofs.moving.move_plan.Goals as goal
 
 pub overflow_sub-kept : goal.overflow_sub-kept
@@ -18,13 +19,13 @@ overflow_sub-left c = let pre = c.requires in omega (arith, pre.went_value, pre.
 
 pub fresh_words-words-requires : goal.fresh_words-words-requires
 fresh_words-words-requires c =
-    let W = c.fresh_slots-fresh.ensures in
+    let W = fresh_some _ _ _ _ c.fresh_slots.ensures c.in-Some.is in
     right-then _ _ c.requires.plan_right _ _ _
     W.0 W.1
 
 pub fresh_units-some-requires : goal.fresh_units-some-requires
 fresh_units-some-requires c =
-    let W = c.fresh_slots-fresh.ensures in
+    let W = fresh_some _ _ _ _ c.fresh_slots.ensures c.in-Some.is in
     let pre = c.requires in
     let r = right-then _ _ pre.plan_right _ _ _ W.0 W.1 in
     (r.base-few, r.base_ok, pre.plan_right.settings-ok)
@@ -32,28 +33,28 @@ fresh_units-some-requires c =
 pub overflow_add-slots : goal.overflow_add-slots
 overflow_add-slots c =
     let pre = c.requires in
-    let W = c.fresh_slots-fresh.ensures in
+    let W = fresh_some _ _ _ _ c.fresh_slots.ensures c.in-Some.is in
     let R = rooms _ _ pre.plan_right _ _ _ W.0 W.1 _ _ pre.went_value c.start_from-gone.ensures in
     omega (arith, R.total)
 
 pub roll_frozen-requires : goal.roll_frozen-requires
 roll_frozen-requires c =
     let pre = c.requires in
-    let W = c.fresh_slots-fresh.ensures in
+    let W = fresh_some _ _ _ _ c.fresh_slots.ensures c.in-Some.is in
     let R = rooms _ _ pre.plan_right _ _ _ W.0 W.1 _ _ pre.went_value c.start_from-gone.ensures in
     (pre.plan_right.frozen-room, R.total, R.moved)
 
 pub roll_rows-requires : goal.roll_rows-requires
 roll_rows-requires c =
     let pre = c.requires in
-    let W = c.fresh_slots-fresh.ensures in
+    let W = fresh_some _ _ _ _ c.fresh_slots.ensures c.in-Some.is in
     let R = rooms _ _ pre.plan_right _ _ _ W.0 W.1 _ _ pre.went_value c.start_from-gone.ensures in
     record { people_value = (pre.plan_right.people-ok, pre.plan_right.avail-room); count_bound = (R.total, R.moved) }
 
 pub overflow_add-units : goal.overflow_add-units
 overflow_add-units c =
     let pre = c.requires in
-    let W = c.fresh_slots-fresh.ensures in
+    let W = fresh_some _ _ _ _ c.fresh_slots.ensures c.in-Some.is in
     let R = rooms _ _ pre.plan_right _ _ _ W.0 W.1 _ _ pre.went_value c.start_from-gone.ensures in
     let U = c.fresh_units-some.ensures in
     let few = unit-room _ _ pre.plan_right _ _ _ W.0 W.1 _ _ pre.went_value c.start_from-gone.ensures _ _ U in
@@ -62,7 +63,7 @@ overflow_add-units c =
 pub roll_begins-requires : goal.roll_begins-requires
 roll_begins-requires c =
     let pre = c.requires in
-    let W = c.fresh_slots-fresh.ensures in
+    let W = fresh_some _ _ _ _ c.fresh_slots.ensures c.in-Some.is in
     let R = rooms _ _ pre.plan_right _ _ _ W.0 W.1 _ _ pre.went_value c.start_from-gone.ensures in
     let U = c.fresh_units-some.ensures in
     let few = unit-room _ _ pre.plan_right _ _ _ W.0 W.1 _ _ pre.went_value c.start_from-gone.ensures _ _ U in
@@ -77,35 +78,40 @@ roll_begins-requires c =
 pub slice_bounds-roll_minutes-end : goal.slice_bounds-roll_minutes-end
 slice_bounds-roll_minutes-end c =
     let pre = c.requires in
-    let W = c.fresh_slots-fresh.ensures in
+    let W = fresh_some _ _ _ _ c.fresh_slots.ensures c.in-Some.is in
     let R = rooms _ _ pre.plan_right _ _ _ W.0 W.1 _ _ pre.went_value c.start_from-gone.ensures in
     sym R.starts-long
 
 pub slice_bounds-roll_minutes-end-2 : goal.slice_bounds-roll_minutes-end-2
 slice_bounds-roll_minutes-end-2 c =
     let pre = c.requires in
-    let W = c.fresh_slots-fresh.ensures in
+    let W = fresh_some _ _ _ _ c.fresh_slots.ensures c.in-Some.is in
     let R = rooms _ _ pre.plan_right _ _ _ W.0 W.1 _ _ pre.went_value c.start_from-gone.ensures in
     sym R.ends-long
 
 pub roll_minutes-requires : goal.roll_minutes-requires
 roll_minutes-requires c =
     let pre = c.requires in
-    let W = c.fresh_slots-fresh.ensures in
+    let W = fresh_some _ _ _ _ c.fresh_slots.ensures c.in-Some.is in
     let R = rooms _ _ pre.plan_right _ _ _ W.0 W.1 _ _ pre.went_value c.start_from-gone.ensures in
     (omega (arith, R.moved, pre.plan_right.starts-room), omega (arith, R.total, pre.plan_right.starts-room), omega (arith, R.new, R.starts-long))
 
 pub roll_minutes-requires-2 : goal.roll_minutes-requires-2
 roll_minutes-requires-2 c =
     let pre = c.requires in
-    let W = c.fresh_slots-fresh.ensures in
+    let W = fresh_some _ _ _ _ c.fresh_slots.ensures c.in-Some.is in
     let R = rooms _ _ pre.plan_right _ _ _ W.0 W.1 _ _ pre.went_value c.start_from-gone.ensures in
     (omega (arith, R.moved, pre.plan_right.ends-room), omega (arith, R.total, pre.plan_right.ends-room), omega (arith, R.new, R.ends-long))
 
 pub returns : goal.returns
 returns c =
     let pre = c.requires in
-    let W = c.fresh_slots-fresh.ensures in
+    let W = fresh_some _ _ _ _ c.fresh_slots.ensures c.in-Some.is in
     plan-moved _ _ pre.plan_right _ _ _ W.0 W.1 _ _ pre.went_value c.start_from-gone.ensures _ _ c.fresh_units-some.ensures _ _ _ _ _ _
     c.fresh_words-words.ensures c.roll_minutes.ensures c.roll_minutes-2.ensures c.roll_rows.ensures
     c.roll_begins.ensures c.roll_frozen.ensures
+
+pub returns-in_default : goal.returns-in_default
+returns-in_default c =
+    let full = fresh_none _ _ _ c.fresh_slots.ensures c.in_default.is in
+    absurd (omega (arith, full, starts-short _ _ c.requires.plan_right))

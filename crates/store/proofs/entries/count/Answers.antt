@@ -1,17 +1,23 @@
 -- `store::entries::count` meets its contract. Assumes nothing.
-use Rattle.slotset.proofs.Refusals.{answer-is, answer-refused}
-use Rattle.store.specs.Outcome.{count_is}
-use Rattle.store.proofs.Outcomes.{store-number}
+use mathlib.Core.Path.{sym, ap, ◌∙◌}
+use Rattle.std.specs.Prelude.{Err}
+use native.Mathlib.Omega.{arith}
+use Rattle.std.proofs.lemmas.Result.{err_from_is_err_and}
+use Rattle.store.proofs.Outcomes.{laid_ok, laid_err, count-held, count-short, count-unlaid}
 use Rattle.store.proofs.entries.count.Goals as goal
 
-pub returns-then-n-eq0 : goal.returns-then-n-eq0
-unfolding count_is
-returns-then-n-eq0 c =
-    let j = c.judge_layout-l.ensures in
-    answer-is _ _ (store-number _ _ _ j.0 c.store_refusal-n.ensures) c.if-n-eq0.true _ _ j.1
+pub returns-then-used-area : goal.returns-then-used-area
+returns-then-used-area c =
+    let j = laid_ok _ _ _ c.laid_count.ensures c.in_ok-count.was in
+    count-held _ _ _ j.0 (omega arith) j.1
 
-pub returns-else-n-eq0 : goal.returns-else-n-eq0
-unfolding count_is
-returns-else-n-eq0 c =
-    let j = c.judge_layout-l.ensures in
-    answer-refused _ _ (store-number _ _ _ j.0 c.store_refusal-n.ensures) c.if-n-eq0.false _
+pub returns-else-used-area : goal.returns-else-used-area
+returns-else-used-area c =
+    let j = laid_ok _ _ _ c.laid_count.ensures c.in_ok-count.was in
+    count-short _ _ c.in_ok-count.count j.0 (omega arith)
+
+pub returns-in_err-count : goal.returns-in_err-count
+returns-in_err-count c =
+    let j = laid_err _ _ _ c.laid_count.ensures c.in_err-count.was in
+    let p = err_from_is_err_and c.from_residual.result c.from_residual.ensures.1 in
+    p.1 ∙ ap Err (p.2 ∙ sym j.1) ∙ count-unlaid _ _ j.0
