@@ -186,7 +186,8 @@ impl Units {
             2 => drop(self.unit_starts.pop()),
             _ if k >= self.unit_starts.len() => {}
             3 if k > 0 => self.unit_starts[k] = self.unit_starts[k - 1],
-            4 => self.unit_starts[k] = slots as u16 + seed.below(3) as u16,
+            // wrapping, since the slot count may have been damaged before
+            4 => self.unit_starts[k] = (slots as u16).wrapping_add(seed.below(3) as u16),
             _ => self.unit_starts[0] = 1,
         }
     }
