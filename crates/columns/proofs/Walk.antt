@@ -12,7 +12,7 @@ use Rattle.std.proofs.lemmas.List.{take-append-drop}
 use Rattle.std.proofs.lemmas.Slice.{put_mid-paste}
 use borrow.Rule.Slice.PartMut.{put_mid}
 use Rattle.paper.specs.Count.{over}
-use Rattle.paper.proofs.Count.{length_over, over-more, get_d-over-out}
+use Rattle.paper.proofs.Count.{length_over, over-more, get_d-over-out, get_d_over}
 use Rattle.columns.specs.Parts.{is_frozen, next_change, part_at, owners_of}
 use Rattle.columns.specs.Publishing.{owner_read}
 use Rattle.columns.specs.Inside.{Sound}
@@ -51,6 +51,12 @@ module _ (p d f now : List ℕ) (k : ℕ) (r : Bool) (is : r ≡ is_frozen f k) 
       ap₂ (λ (l : List ℕ) (x : ℕ). set l k x) so (sym (read-open p d f k (sym is ∙ t))) ∙ sym (over-more (owner_read p d f) k p)
 
 -- ---- part by part
+
+-- a list of which every entry is set to another's is that one
+pub put-whole : (p l : List ℕ) → length l ≡ length p → over (λ k. get_or p k 0) (length p) l ≡ p
+put-whole p l e =
+    ext_get_or 0 (over (λ k. get_or p k 0) (length p) l) p (length_over (λ k. get_or p k 0) (length p) l ∙ e)
+    (λ j b. get_d_over (λ k. get_or p k 0) (length p) l j (omega (arith, length_over (λ k. get_or p k 0) (length p) l)) (omega (arith, length_over (λ k. get_or p k 0) (length p) l)))
 
 -- what is pasted behind entries made anew makes anew that many more
 pub pasted : (g : ℕ → ℕ) (at n : ℕ) (s l : List ℕ) → n ≤ length s → at + n ≤ length l → ((k : ℕ) → k < n → get_or s k 0 ≡ g (at + k))

@@ -147,6 +147,16 @@ pub fn publish(slots: usize, draft: &[u8], frozen: &[u64], published: &mut [u8])
     number
 }
 
+// A part's owners go into a list as long, one by one: the library's copy would ask whoever links the archive for `memmove`.
+fn put_part(part: &[u8], shown: &mut [u8])
+    requires { length shown.old ≡ length part.now }
+    ensures { shown.new ≡ part.now }
+{
+    for k in 0..part.len() {
+        shown[k] = part[k];
+    }
+}
+
 // The walk by parts, from slot 0 on, into a list with room for them.
 fn show_parts<'a>(
     slots: usize,
@@ -165,7 +175,7 @@ fn show_parts<'a>(
     while at < slots {
         let part = part_at(slots, published, draft, frozen, at);
         let upto = at + part.len();
-        shown[at..upto].copy_from_slice(part);
+        put_part(part, &mut shown[at..upto]);
         at = upto;
     }
 }

@@ -54,15 +54,15 @@ fn owner_at(begins: &[u16], owners: &[u8], unit: usize) -> u8
     owners[begins[unit] as usize]
 }
 
-// The first unit of a unit's run: the units from it up to this one have its owner.
+// The first unit of a unit's run: the n units before it have its owner. A range that is walked down costs twice as much a unit.
 fn run_start(begins: &[u16], owners: &[u8], unit: usize) -> usize
     requires { OwnerRoom (suc unit) begins.now owners.now }
     ensures { result ≡ run_start (λ u. get_or owners.now (unit_start begins.now u) 0) unit }
 {
     let owner = owner_at(begins, owners, unit);
-    for u in (0..unit).rev() {
-        if owner_at(begins, owners, u) != owner {
-            return u + 1;
+    for n in 0..unit {
+        if owner_at(begins, owners, unit - n - 1) != owner {
+            return unit - n;
         }
     }
     0

@@ -7,14 +7,14 @@ use Prim.Native.Nat.{ℕ, zero, suc, ◌+◌, ◌-◌, ◌*◌, ◌≤◌, ◌<�
 use native.Mathlib.Nat.{le_antisymm, not-suc-le-zero}
 use native.Mathlib.Numerals.{add-one}
 use native.Mathlib.Omega.{arith}
-use borrow.Author.Tests.{ltb-true, ltb-false, leb-true, eqb-true, lt-ltb, le-ltb, le-leb, eq-eqb}
+use borrow.Author.Tests.{ltb-true, ltb-false, leb-true, eqb-true, lt-ltb, le-ltb, le-leb, lt-leb, eq-eqb}
 use lib.Dec.{leb, ltb, eqb}
-use lib.ListN.{length, get_or, take, drop, set, length-append, get_or-append}
+use lib.ListN.{length, get_or, take, drop, set, length-append, length-drop, get_or-append}
 use lib.Seq.{take_at, length-take-le, get_or-append_seam}
 use Rattle.paper.specs.Limits.{people_ok}
 use Rattle.paper.specs.Count.{all, some}
 use Rattle.paper.proofs.Logic.{both, three, people-says, below_suc, lt-or-ge, same_test, and-true, or_left, or-second, or-either}
-use Rattle.paper.proofs.Count.{all-fails, all-each, each_all, all_same, some_one}
+use Rattle.paper.proofs.Count.{all_more, all-fails, all_done, all-each, each_all, all_same, some_one}
 use Rattle.slots.specs.Ranges.{range_at, Range, Ranges, range_count_ok, range_room_ok, range_ok, range_ok_at, ranges_ok, covers, in_ranges}
 use Rattle.std.specs.List.{IsAllAdjacentAnswer}
 use Rattle.slots.specs.Merged.{merged_of, IsMerged}
@@ -194,6 +194,21 @@ sorted-in-order n l e s =
     each_all (length l - 1) (rises l)
     (λ k h. le-leb _ _ (opens-mono (get_or l k 0) (get_or l (suc k) 0) (s k (suc k) (omega arith) (omega arith))))
 
+-- the test, pair by pair
+pub rises-more : (l : List ℕ) (i : ℕ) → all i (rises l) ≡ true → opens (get_or l i 0) ≤ opens (get_or l (i + 1) 0)
+    → all (i + 1) (rises l) ≡ true
+unfolding rises
+rises-more l i e h = all_more i (rises l) e (le-leb (opens (get_or l i 0)) (opens (get_or l (suc i) 0)) (rw (add-one i) at h))
+
+pub rises-not : (l : List ℕ) (i : ℕ) → i + 1 < length l → opens (get_or l (i + 1) 0) < opens (get_or l i 0) → false ≡ in_order l
+unfolding in_order rises
+rises-not l i b h =
+    sym (all-fails (length l - 1) i (rises l) (omega arith) (lt-leb (opens (get_or l i 0)) (opens (get_or l (suc i) 0)) (rw (add-one i) at h)))
+
+pub rises-done : (l : List ℕ) (i : ℕ) → i ≤ length l - 1 → length l ≤ i + 1 → all i (rises l) ≡ true → true ≡ in_order l
+unfolding in_order
+rises-done l i a b e = all_done (length l - 1) i (rises l) a (omega arith) e
+
 -- what `is_sorted_by` answers by where ranges open
 pub order-answer : (l : List ℕ) (r : Bool) → IsAllAdjacentAnswer (λ x y b. b ≡ leb (opens x) (opens y)) l r → r ≡ in_order l
 unfolding in_order rises
@@ -316,6 +331,9 @@ module _ (n : ℕ) (keys sorted : List ℕ) (few : n ≤ length keys) (kept : le
 
   pub front_fits : n ≤ length (sorted ++ drop n keys)
   front_fits = omega (arith, length-append sorted (drop n keys), sorted-length)
+
+  pub front-whole : length (sorted ++ drop n keys) ≡ length keys
+  front-whole = length-append sorted (drop n keys) ∙ omega (arith, sorted-length, length-drop n keys)
 
   -- the walk over them gives the merged list
   pub front-merged : (R : Ranges) → RangesSound R → R.count ≡ n → take n keys ≡ keys_of R

@@ -58,6 +58,10 @@ fn next_cut(keys: &[u64], n: usize, after: u64, end: u64) -> u64
     requires { HeldMerged keys.now n × (after < end) × (end ≤ 100000000) }
     ensures { NextCut (key_cut (take n keys.now)) after end result }
 {
+    // where nobody has a range nothing cuts
+    if n == 0 {
+        return end;
+    }
     let mut best = end;
     let mut opened: usize = 0;
     for person in 0..32u64 {

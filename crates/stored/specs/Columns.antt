@@ -1,6 +1,6 @@
 -- Columns of numbers: read from bytes, and compared. Assumes nothing.
 use Rattle.std.specs.Prelude.{ℕ, ◌*◌, ◌/◌, ◌%◌, min, Bool, cond, ◌&&◌, List, length, take, ◌==◌, slice_index}
-use Rattle.paper.specs.Count.{all, over}
+use Rattle.paper.specs.Count.{all, all_in, over}
 use Rattle.stored.specs.Numbers.{further, little_at}
 
 -- the number of w bytes that stands j numbers after the index; the byte that stands j bytes after it
@@ -34,3 +34,7 @@ same a b = length a == length b && all (length a) (alike a b)
 -- the first n entries, or all where there are fewer
 abbrev pub front : ℕ → List ℕ → List ℕ
 front n l = take (min n (length l)) l
+
+-- each byte from an index on is the one that the buffer was filled with
+abbrev pub unwritten : List ℕ → ℕ → ℕ → Bool
+unwritten out from fill = all_in from (length out) (λ j. slice_index out j == fill)

@@ -4,7 +4,7 @@
 ghost use Rattle.std.specs.Prelude.{◌≡◌, ◌+◌, ◌<◌, ◌≤◌, ◌==◌, ◌&&◌, min, true, false, if◌then◌else◌, nat_eq, length, slice_index, take};
 ghost use Rattle.std.specs.Io.{ReadsAtMost};
 ghost use Rattle.stored.specs.Numbers.{further, little_at, four_after, above, above_yes};
-ghost use Rattle.stored.specs.Columns.{filled, bytes_filled, row_word, rows_filled, same, front};
+ghost use Rattle.stored.specs.Columns.{filled, bytes_filled, row_word, rows_filled, same, front, unwritten};
 
 use std::io;
 use std::io::{Print, Read};
@@ -184,7 +184,10 @@ pub fn compare_bodies<R: Read, F: Fn(Tally, &[u8], &mut [u8], &[u8]) -> Tally>(
             let mut second = [0u8; 65536];
             let n = half(head, 0);
             let m = half(head, second_at);
-            if filled(from, &mut first, n)? && filled(from, &mut second, m)? {
+            // both are read, whether the first came whole or not
+            let first_came = filled(from, &mut first, n)?;
+            let second_came = filled(from, &mut second, m)?;
+            if first_came && second_came {
                 let to = at_most(n, first.len());
                 let end = at_most(m, second.len());
                 return Ok(Turn::whole(answers(t, head, &mut first[..to], &second[..end])));
@@ -421,9 +424,18 @@ pub fn same_text(got: &[u8], n: usize, due: &[u8]) -> bool
     n <= got.len() && same_raws(front(got, n), due)
 }
 
-// Whether each byte from an index on is the one that a buffer was filled with.
-pub fn unwritten(out: &[u8], from: usize, fill: u8) -> bool {
-    out.iter().skip(from).all(|byte| *byte == fill)
+// Whether each byte from an index on is the one that a buffer was filled with. All of them are read: a walk that leaves early reads one
+// at a time.
+pub fn unwritten(out: &[u8], from: usize, fill: u8) -> bool
+    ensures { result ≡ unwritten out.now from fill }
+{
+    let mut same = true;
+    for j in from..out.len() {
+        if out[j] != fill {
+            same = false;
+        }
+    }
+    same
 }
 
 // An answer among stored numbers: a refusal is its number above a base.

@@ -119,6 +119,10 @@ fn change_answers(tally: Tally, set: SlotSet, b: &[u8]) -> Tally {
 
 // All answers of a record.
 fn record_answers(tally: Tally, b: &[u8]) -> Tally {
+    // an array, so that the compiler knows which bytes are there and reads a word at once
+    let Some(b) = b.as_array::<RECORD>() else {
+        return tally.with(false);
+    };
     let len = half(b, 0);
     let ws = words(b, WORDS_AT);
     let mut t = tally.with(yes_no(row::is_empty(1, len, &ws, 0)) == half(b, 130));

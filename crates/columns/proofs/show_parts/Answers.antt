@@ -15,9 +15,9 @@ use Rattle.columns.proofs.show_parts.Goals.{After-part_at-part}
 ends : (c : After-part_at-part) → (c.loop-at.at < c.loop-at.at + length c.part_at-part.result.now) × (c.loop-at.at + length c.part_at-part.result.now ≤ c.args.slots)
 ends c = part-ends _ _ _ _ c.requires.sound _ c.loop-at-test.true _ c.part_at-part.ensures.entries
 
-pub slice_bounds-copy_from_slice-end : goal.slice_bounds-copy_from_slice-end
-slice_bounds-copy_from_slice-end c =
-    omega (arith, (ends (goal.at.slice_bounds-copy_from_slice-end c).After-part_at-part).1, c.requires.slots_in_bounds, c.loop-at.auto.shown)
+pub slice_bounds-put_part-end : goal.slice_bounds-put_part-end
+slice_bounds-put_part-end c =
+    omega (arith, (ends (goal.at.slice_bounds-put_part-end c).After-part_at-part).1, c.requires.slots_in_bounds, c.loop-at.auto.shown)
 
 pub loop-at-init : goal.loop-at-init
 loop-at-init c = (search rules, sym (over_none _ _))
@@ -25,9 +25,9 @@ loop-at-init c = (search rules, sym (over_none _ _))
 pub part_at-part-requires : goal.part_at-part-requires
 part_at-part-requires c = record { sound = c.requires.sound; slot_lt_slots = c.loop-at-test.true }
 
-pub copy_from_slice-requires : goal.copy_from_slice-requires
-copy_from_slice-requires c =
-    let e = ends (goal.at.copy_from_slice-requires c).After-part_at-part in
+pub put_part-requires : goal.put_part-requires
+put_part-requires c =
+    let e = ends (goal.at.put_part-requires c).After-part_at-part in
     simp (length-take, length-drop) (omega (arith, c.requires.slots_in_bounds, c.loop-at.auto.shown))
 
 pub loop-at-smaller : goal.loop-at-smaller
@@ -38,7 +38,7 @@ loop-at-preserved c =
     let e = ends (goal.at.loop-at-preserved c).After-part_at-part in
     let room = c.requires.slots_in_bounds in (
       e.1,
-      part-more _ _ _ _ c.requires.sound _ c.loop-at-test.true _ c.part_at-part.ensures.entries _ _ _ _ (omega arith) c.copy_from_slice.ensures.after c.loop-at.invariant.1 room,
+      part-more _ _ _ _ c.requires.sound _ c.loop-at-test.true _ c.part_at-part.ensures.entries _ _ _ _ (omega arith) c.put_part.ensures c.loop-at.invariant.1 room,
     )
 
 pub returns : goal.returns

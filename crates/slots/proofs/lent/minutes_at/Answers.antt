@@ -6,4 +6,4 @@ use Rattle.slots.proofs.lent.minutes_at.Goals as goal
 
 pub returns : goal.returns
 unfolding minutes_at
-returns c = c.saturating_sub.ensures ∙ ap₂ ◌-◌ c.entry_of.ensures c.entry_of-2.ensures
+returns c = c.saturating_sub.ensures ∙ ap₂ ◌-◌ c.entry_of.ensures c.entry_of-start.ensures

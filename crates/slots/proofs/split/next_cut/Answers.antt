@@ -1,7 +1,18 @@
 -- `slots::split::next_cut` meets its contract. Assumes nothing.
+use mathlib.Core.Path.{◌≡◌, refl}
+use mathlib.Core.Bool.{false}
+use Prim.Native.Nat.{ℕ}
 use native.Mathlib.Omega.{arith}
+use lib.ListN.{take}
+use Rattle.slots.specs.Inside.{key_cut, any_of}
 use Rattle.slots.proofs.EdgeLaws.{below-begin, below_more, below-done}
 use Rattle.slots.proofs.split.next_cut.Goals as goal
+
+pub returns-then-n-eq0 : goal.returns-then-n-eq0
+unfolding key_cut any_of
+returns-then-n-eq0 c =
+    let none : (k : ℕ) → key_cut (take c.args.n c.args.keys.now) k ≡ false = λ k. rw c.if-n-eq0.true refl in
+    record { from = omega (arith, c.requires.1); within = omega arith; here = λ h. absurd (omega arith); before = λ k a b. none k }
 
 pub loop-person-init : goal.loop-person-init
 loop-person-init c = (below-begin _ _ _ c.requires.1, omega arith, λ k h. absurd (omega arith))
